@@ -1,0 +1,38 @@
+-- How large a plane's values are.
+-- Assumes nothing.
+use mathlib.Core.Path.{_≡_, refl, sym, _∙_, ap}
+use Prim.Native.Nat.{ℕ, zero, suc, _+_, _-_, _*_, _^_, _≤_, _<_}
+use native.Mathlib.Omega.{arith}
+use native.Mathlib.Nat.{mul-le-mul}
+use mathlib.Core.List.{List}
+use lib.ListN.{getD}
+use lib.IntN.{ℤ, pos, negsuc, natAbs, _+ℤ_, _*ℤ_}
+use Rattle.numbers.specs.Sum.{pick}
+use Rattle.numbers.proofs.Sums.{pick-bound}
+use Rattle.numbers.proofs.Magnitudes.{size-mul}
+use lib.Signed.{mag, natAbs-le}
+use Rattle.picture.specs.Size.{rowAt, columnAt}
+use Rattle.picture.specs.Picture.{Source, Levels, counts, planeValue, planeAt, levelOf, otherOf, levelAt}
+
+pub product-bound : (x y : ℤ) → natAbs x ≤ 32768 → natAbs y ≤ 32768 → natAbs (x *ℤ y) ≤ 2 ^ 30
+product-bound x y h k = omega (arith, size-mul x y, mul-le-mul h k)
+
+pub value-bound : (p : ℕ) (x y : ℤ) → natAbs x ≤ 32768 → natAbs y ≤ 32768 → natAbs (planeValue p x y) ≤ 2 ^ 30
+unfolding planeValue
+value-bound zero x y h k = omega arith
+value-bound (suc zero) x y h k = omega arith
+value-bound (suc (suc zero)) x y h k = omega arith
+value-bound (suc (suc (suc zero))) x y h k = product-bound x x h h
+value-bound (suc (suc (suc (suc zero)))) x y h k = product-bound y y k k
+value-bound (suc (suc (suc (suc (suc p))))) x y h k = product-bound x y h k
+
+module _ (x : Source) (hf : Levels (x .f)) (hg : Levels (x .g)) where
+  pub level-bound : (m n : ℕ) → natAbs (levelOf x m n) ≤ 32768
+  level-bound m n = natAbs-le (levelOf x m n) (hf .level (m * x .size .columns + n))
+
+  pub other-bound : (m n : ℕ) → natAbs (otherOf x m n) ≤ 32768
+  other-bound m n = natAbs-le (otherOf x m n) (hg .level (rowAt (x .size) (pos m +ℤ x .shift .down) * x .size .columns + columnAt (x .size) (pos n +ℤ x .shift .right)))
+
+  pub plane-bound : (m n : ℕ) → natAbs (planeAt x m n) ≤ 2 ^ 30
+  unfolding planeAt
+  plane-bound m n = omega (arith, pick-bound (counts x m n) (planeValue (x .plane) (levelOf x m n) (otherOf x m n)), value-bound (x .plane) (levelOf x m n) (otherOf x m n) (level-bound m n) (other-bound m n))

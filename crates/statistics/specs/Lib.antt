@@ -1,0 +1,4 @@
+pub mod SixSums
+pub mod Moments
+pub mod Voice
+pub mod Coefficient
