@@ -18,7 +18,7 @@ use Rattle.picture.specs.Size.{cells}
 use Rattle.picture.specs.Picture.{Levels, Inputs, planeAt}
 use Rattle.picture.specs.Conditions.{accepted, inputChecks, check7, check8}
 use Rattle.picture.specs.Direct.{windowSum, directSum, directCall}
-use Rattle.picture.proofs.Checks.{InLimits, in-limits, Accepted, accepted-has, direct-answers, pass-all, none-head, none-rest, outcome-none, pass, no-checks}
+use Rattle.picture.proofs.Refusals.{InLimits, in-limits, Accepted, accepted-has, direct-answers, pass-all, none-head, none-rest, outcome-none, pass, no-checks}
 use Rattle.picture.proofs.Planes.{plane-bound}
 use Rattle.table.specs.Table.{tableOf, buildCall, readCall}
 use Rattle.table.proofs.Reading.{build-fills, read-answers}

@@ -38,8 +38,12 @@ mag-size : (x : ℤ) → mag x ≤ natAbs x
 mag-size (pos n) = omega arith
 mag-size (negsuc n) = omega arith
 
+-- what is below half of a width's range fits it
+pub fits-at : (w : Width) (x : ℤ) → natAbs x < 2 ^ hbits w → SFits w x
+fits-at w x h = record { sfits = omega (arith, mag-size x) }
+
 pub fits64 : (x : ℤ) → natAbs x < 2 ^ 63 → SFits w64 x
-fits64 x h = record { sfits = omega (arith, mag-size x) }
+fits64 x h = fits-at w64 x h
 
 pub size-quot : (x y : ℤ) → natAbs (quotZ x y) ≤ natAbs x
 size-quot (pos a) (pos b) = div-le-self a b

@@ -8,7 +8,7 @@ use Rattle.numbers.specs.Sum.{sumTo, pick}
 use Rattle.numbers.specs.Grid.{tabulate, rowsFrom}
 use Rattle.numbers.specs.Round.{floorDiv, nearest}
 use Rattle.picture.specs.Refusal.{Outcome, refused, answered}
-use Rattle.picture.specs.Window.{windowLegal, shapeOf, height, reach}
+use Rattle.picture.specs.Window.{rectangleLegal, diamondLegal, hexagonLegal, windowLegal, shapeOf, height, reach}
 use Rattle.picture.specs.Size.{sizeLegal, inRange}
 use Rattle.picture.specs.Picture.{counts, planeValue, planeAt}
 use Rattle.picture.specs.Direct.{windowSum, directSum}
@@ -23,7 +23,7 @@ asked = 50 ∷ 32 ∷ 51 ∷ 32 ∷ 49 ∷ 32 ∷ 48 ∷ 32 ∷ 49 ∷ 32 ∷ 49
 
 -- 2 3 4 / -1 -3 -4
 example : panel asked ≡ 50 ∷ 32 ∷ 51 ∷ 32 ∷ 52 ∷ 10 ∷ 45 ∷ 49 ∷ 32 ∷ 45 ∷ 51 ∷ 32 ∷ 45 ∷ 52 ∷ 10 ∷ []
-unfolding panel shown parsed sized filled framed levelsOf panelSize countOf lineOf linesOf printed decimal decimalIn number mapOption natural valueFrom allDigits runsFrom ended isDigit divides smoothed mean directSum windowSum planeAt planeValue counts inRange sizeLegal windowLegal shapeOf height reach floorDiv nearest tabulate rowsFrom sumTo pick
+unfolding panel shown parsed sized filled framed levelsOf panelSize countOf lineOf linesOf printed decimal decimalIn number mapOption natural valueFrom allDigits runsFrom ended isDigit divides smoothed mean directSum windowSum planeAt planeValue counts inRange sizeLegal rectangleLegal diamondLegal hexagonLegal windowLegal shapeOf height reach floorDiv nearest tabulate rowsFrom sumTo pick
 example = refl
 
 -- 0 3 x is refused by 1, before the malformed number; 2 x by 10; a negative shape by 3
@@ -36,7 +36,7 @@ unfolding parsed sized panelSize countOf number mapOption natural valueFrom allD
 malformed = refl
 
 no-shape : parsed (49 ∷ 32 ∷ 49 ∷ 32 ∷ 45 ∷ 49 ∷ 32 ∷ 48 ∷ 32 ∷ 48 ∷ 32 ∷ 55 ∷ []) ≡ refused 3
-unfolding parsed sized filled framed levelsOf panelSize countOf number mapOption natural valueFrom allDigits runsFrom ended isDigit divides sizeLegal windowLegal
+unfolding parsed sized filled framed levelsOf panelSize countOf number mapOption natural valueFrom allDigits runsFrom ended isDigit divides sizeLegal rectangleLegal diamondLegal hexagonLegal windowLegal
 no-shape = refl
 
 -- refused 10

@@ -10,10 +10,11 @@ use lib.Signed.{leZ}
 use Rattle.numbers.specs.Sum.{sumTo, pick}
 use Rattle.numbers.proofs.Sums.{sum-cong, sum-zero, sum-swap, sum-bound, pick-bound}
 use Rattle.picture.specs.declared.Window.{Window}
-use Rattle.picture.specs.Window.{window, Shape, Slanted, rectangle, slanted, diamond, hexagon, windowLegal, shapeOf, height, reach, width, depth, holds, between}
+use Rattle.picture.specs.Window.{window, Shape, Slanted, rectangle, slanted, diamond, hexagon, rectangleLegal, diamondLegal, hexagonLegal, windowLegal, shapeOf, height, reach, width, depth, holds, between}
 use Rattle.picture.specs.declared.Size.{Size}
 use Rattle.picture.specs.Size.{rowGap, columnGap}
 use Rattle.picture.specs.Direct.{windowSum}
+use Rattle.picture.proofs.Legal.{to-127}
 use Rattle.numbers.proofs.Tests.{and-left, and-right, and-both, same-test}
 
 -- a window by rows is the window by columns
@@ -71,24 +72,20 @@ pub record Small (s : Shape) : Type 0 where
   pub low : height s ≤ 127
   pub narrow : (p : ℕ) → reach s p ≤ 127
 
-to127 : (a : ℤ) → T (between (pos 0) (pos 127) a) → natAbs a ≤ 127
-to127 (pos n) t = leb→le n 127 (and-right (leZ (pos 0) (pos n)) (leZ (pos n) (pos 127)) t)
-to127 (negsuc n) t = absurd (and-left (leZ (pos 0) (negsuc n)) (leZ (negsuc n) (pos 127)) t)
-
 sum127 : (a b : ℤ) → T (leZ (pos 0) a && leZ (pos 0) b && leZ (a +ℤ b) (pos 127)) → natAbs a + natAbs b ≤ 127
 sum127 (pos m) (pos n) t = leb→le (m + n) 127 (and-right (leZ (pos 0) (pos m) && leZ (pos 0) (pos n)) (leZ (pos (m + n)) (pos 127)) t)
 sum127 (negsuc m) b t = absurd (and-left (leZ (pos 0) (negsuc m)) (leZ (pos 0) b) (and-left (leZ (pos 0) (negsuc m) && leZ (pos 0) b) (leZ (negsuc m +ℤ b) (pos 127)) t))
 sum127 (pos m) (negsuc n) t = absurd (and-right (leZ (pos 0) (pos m)) (leZ (pos 0) (negsuc n)) (and-left (leZ (pos 0) (pos m) && leZ (pos 0) (negsuc n)) (leZ (pos m +ℤ negsuc n) (pos 127)) t))
 
 small-window : (n : ℕ) (a b : ℤ) → T (windowLegal (window n a b)) → Small (shapeOf (window n a b))
-unfolding windowLegal shapeOf height reach
+unfolding windowLegal rectangleLegal diamondLegal hexagonLegal shapeOf height reach
 small-window zero a b t = absurd t
 small-window (suc zero) a b t =
-    let h = to127 a (and-left (between (pos 0) (pos 127) a) (between (pos 0) (pos 127) b) t) in
-    let k = to127 b (and-right (between (pos 0) (pos 127) a) (between (pos 0) (pos 127) b) t) in
+    let h = to-127 a (and-left (between (pos 0) (pos 127) a) (between (pos 0) (pos 127) b) t) in
+    let k = to-127 b (and-right (between (pos 0) (pos 127) a) (between (pos 0) (pos 127) b) t) in
     record { low = h; narrow = λ p. k }
 small-window (suc (suc zero)) a b t =
-    let h = to127 a (and-left (between (pos 0) (pos 127) a) (between (pos 0) (pos 0) b) t) in
+    let h = to-127 a (and-left (between (pos 0) (pos 127) a) (between (pos 0) (pos 0) b) t) in
     record { low = h; narrow = λ p. omega arith }
 small-window (suc (suc (suc zero))) a b t =
     let h = sum127 a b t in

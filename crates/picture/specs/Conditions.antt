@@ -3,7 +3,7 @@
 use mathlib.Core.Path.{_≡_}
 use Prim.Native.Nat.{ℕ, _-_}
 use mathlib.Core.Bool.{not, _&&_, _||_}
-use mathlib.Core.List.{List, [], _∷_}
+use mathlib.Core.List.{List, [], _∷_, _++_}
 use mathlib.Core.Option.{none}
 use lib.Dec.{ltb, eqb}
 use lib.ListN.{length}
@@ -48,11 +48,15 @@ check7 z position request = 7 when (ltb (z .rows) position || ltb (z .rows - pos
 abbrev pub check8 : ℕ → ℕ → Check
 check8 wanted given = 8 when not (eqb given wanted)
 
+-- a size and two pictures of it: 1, and 2 for each
+abbrev pub pictureChecks : Size → (f g : List ℤ) → List Check
+pictureChecks z f g = check1 z ∷ check2 z f ∷ check2 z g ∷ []
+
 -- demand 3: "of the row call's numbered conditions, [those that look] at them alone": 1 to 5
 abbrev pub inputChecks : Inputs → List Check
 inputChecks x =
     let s = x .source in
-    check1 (s .size) ∷ check2 (s .size) (s .f) ∷ check2 (s .size) (s .g) ∷ check3 (x .window) ∷ check4 (s .shift) ∷ check5 (s .plane) ∷ []
+    pictureChecks (s .size) (s .f) (s .g) ++ (check3 (x .window) ∷ check4 (s .shift) ∷ check5 (s .plane) ∷ [])
 
 -- "they are accepted when .. none that looks at them alone holds"
 abbrev pub accepted : Inputs → Type 0

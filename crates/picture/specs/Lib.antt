@@ -5,3 +5,4 @@ pub mod Picture
 pub mod Conditions
 pub mod Direct
 pub mod Offsets
+pub mod Answers

@@ -21,6 +21,11 @@ unfoldable pub refusal : List Check → Option ℕ
 refusal [] = none
 refusal ((n when c) ∷ rest) = elim c [ true ↦ some n | false ↦ refusal rest ]
 
+-- the same as a number: 0 for none
+unfoldable pub numberOf : Option ℕ → ℕ
+numberOf none = 0
+numberOf (some n) = n
+
 -- the answer of a call with these checks, and this result where none of them holds
 unfoldable pub outcome : {A : Type 0} → Option ℕ → A → Outcome A
 outcome (some n) a = refused n

@@ -16,16 +16,28 @@ window s a b = record { shape = s; first = a; second = b }
 abbrev pub between : ℤ → ℤ → ℤ → Bool
 between lo hi z = leZ lo z && leZ z hi
 
--- shape 1, "each number 0 to 127"; shape 2, "number r, 0 to 127, second number 0"; shape 3, "neither below 0, k + h ≤ 127"; no other shape
+-- shape 1, "numbers a and b: .. each number 0 to 127"
+unfoldable pub rectangleLegal : (a b : ℤ) → Bool
+rectangleLegal a b = between (pos 0) (pos 127) a && between (pos 0) (pos 127) b
+
+-- shape 2, "number r, 0 to 127, second number 0"
+unfoldable pub diamondLegal : (r second : ℤ) → Bool
+diamondLegal r second = between (pos 0) (pos 127) r && between (pos 0) (pos 0) second
+
+-- shape 3, "numbers k and h, neither below 0, k + h ≤ 127"
+unfoldable pub hexagonLegal : (k h : ℤ) → Bool
+hexagonLegal k h = leZ (pos 0) k && leZ (pos 0) h && leZ (k +ℤ h) (pos 127)
+
+-- the shape is 1 to 3, and its numbers are such as the shape allows
 unfoldable pub windowLegal : Window → Bool
-windowLegal w = go (w .shape) (w .first) (w .second)
+windowLegal w = go (w .shape)
   where
-    go : ℕ → ℤ → ℤ → Bool
-    go zero a b = false
-    go (suc zero) a b = between (pos 0) (pos 127) a && between (pos 0) (pos 127) b
-    go (suc (suc zero)) a b = between (pos 0) (pos 127) a && between (pos 0) (pos 0) b
-    go (suc (suc (suc zero))) a b = leZ (pos 0) a && leZ (pos 0) b && leZ (a +ℤ b) (pos 127)
-    go (suc (suc (suc (suc n)))) a b = false
+    go : ℕ → Bool
+    go zero = false
+    go (suc zero) = rectangleLegal (w .first) (w .second)
+    go (suc (suc zero)) = diamondLegal (w .first) (w .second)
+    go (suc (suc (suc zero))) = hexagonLegal (w .first) (w .second)
+    go (suc (suc (suc (suc n)))) = false
 
 -- a legal window's shape, with its numbers: a rectangle, or one of "the others", whose rows differ in length
 pub data Slanted : Type 0 where

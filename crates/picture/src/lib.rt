@@ -1,4 +1,6 @@
-// The picture, its window, and two pictures under a shift: the types that every operation takes.
+// The picture, its window, and two pictures under a shift: their types, the checks, a plane's row, and the direct sum.
+
+pub mod checks; // checks.rt: the conditions 1 to 6, and the first refusal of a call
 
 // "A picture has 1 to 256 rows and 1 to 1,024 columns."
 pub struct Size {
@@ -6,7 +8,13 @@ pub struct Size {
     pub columns: usize,
 }
 
-// A window as a call gives it: the number of its shape, and two numbers.
+// A cell of a picture; rows and columns count from 0.
+pub struct Cell {
+    pub row: usize,
+    pub column: usize,
+}
+
+// A window as a call gives it: the number of its shape (1 rectangle, 2 diamond, 3 hexagon), and two numbers.
 pub struct Window {
     pub shape: u32,
     pub first: i32,
@@ -19,8 +27,13 @@ pub struct Shift {
     pub right: i32,
 }
 
-// A cell of a picture.
-pub struct Cell {
-    pub row: usize,
-    pub column: usize,
+// The answer of a call that gives a sum, and of one that fills an area.
+pub enum SumAnswer {
+    Refused(u32),
+    Sum(i64),
+}
+
+pub enum FillAnswer {
+    Refused(u32),
+    Done,
 }

@@ -16,7 +16,7 @@ use Rattle.picture.specs.Window.{Shape}
 use Rattle.picture.specs.Picture.{Inputs}
 use Rattle.picture.specs.Conditions.{inputChecks, check7, check8, accepted}
 use Rattle.numbers.proofs.Tests.{of-not}
-use Rattle.picture.proofs.Checks.{pass-all, none-head, none-rest}
+use Rattle.picture.proofs.Refusals.{pass-all, none-head, none-rest}
 use Rattle.rows.specs.Rows.{workValue, workAfter, outputRow, Strip, strip, Session, rowChecks, rowResult, rowCall}
 
 -- "Only the number comes back; every lent buffer and the position keep their bytes."

@@ -19,7 +19,7 @@ use Rattle.picture.specs.Window.{Shape, rectangle, slanted, width, depth}
 use Rattle.picture.specs.declared.Size.{Size}
 use Rattle.picture.specs.Size.{rowGap, columnGap}
 use Rattle.picture.specs.Direct.{windowSum}
-use Rattle.picture.proofs.Checks.{InLimits}
+use Rattle.picture.proofs.Refusals.{InLimits}
 use Rattle.picture.proofs.Windows.{by-columns, window-bound}
 use Rattle.rows.specs.Rows.{columnSum, cellBelow, cellAbove, enterLeave, workValue, workChange, workAfter, outputRow, Strip, strip}
 

@@ -14,7 +14,7 @@ use Rattle.numbers.specs.Round.{floorDiv, nearest, rootStep, rootIn, root, root
 use Rattle.numbers.proofs.Sums.{sum-none}
 use Rattle.picture.specs.Refusal.{Outcome, refused, answered, refusal, outcome}
 use Rattle.picture.specs.declared.Window.{Window}
-use Rattle.picture.specs.Window.{windowLegal, shapeOf, height, reach, width, depth, cellsBeyond, cellCount, holds}
+use Rattle.picture.specs.Window.{rectangleLegal, diamondLegal, hexagonLegal, windowLegal, shapeOf, height, reach, width, depth, cellsBeyond, cellCount, holds}
 use Rattle.picture.specs.Size.{sizeLegal, inRange}
 use Rattle.picture.specs.Picture.{shiftLegal, counts, planeValue, planeAt, levelOf, otherOf}
 use Rattle.picture.specs.Direct.{windowSum, directSum, directCall}
@@ -96,7 +96,7 @@ _&_ : {A B : Type 0} → A → B → A × B
 _&_ a b = (a, b)
 
 pub starred-hold : All starred
-unfolding sumTo pick tabulate wrap floorDiv nearest rootStep rootIn root rootOver refusal outcome windowLegal shapeOf height reach width depth cellsBeyond cellCount sizeLegal shiftLegal inRange counts planeValue planeAt windowSum directSum directCall columnSum cellBelow cellAbove enterLeave workValue workChange workAfter outputRow strip rowResult rowCall impossible mean variance deviation unlessEmpty meanCall varianceCall deviationCall signed magnitude coefficient coefficientCall
+unfolding sumTo pick tabulate wrap floorDiv nearest rootStep rootIn root rootOver refusal outcome rectangleLegal diamondLegal hexagonLegal windowLegal shapeOf height reach width depth cellsBeyond cellCount sizeLegal shiftLegal inRange counts planeValue planeAt windowSum directSum directCall columnSum cellBelow cellAbove enterLeave workValue workChange workAfter outputRow strip rowResult rowCall impossible mean variance deviation unlessEmpty meanCall varianceCall deviationCall signed magnitude coefficient coefficientCall
 starred-hold =
     refl & refl & refl & refl & refl & refl & refl &
     refl & refl & refl & refl & refl & refl & refl &

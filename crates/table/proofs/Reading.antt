@@ -26,7 +26,7 @@ use Rattle.picture.specs.Size.{rowGap, columnGap, cells, sizeLegal}
 use Rattle.picture.specs.Picture.{Levels, Source, Inputs, planeAt, shiftLegal}
 use Rattle.picture.specs.Conditions.{accepted, check1, check3, check6, check8}
 use Rattle.picture.specs.Direct.{windowSum, directSum}
-use Rattle.picture.proofs.Checks.{InLimits, in-limits, Accepted, accepted-has, outcome-none, filling-none, pass, no-checks, length-passes, cell-passes}
+use Rattle.picture.proofs.Refusals.{InLimits, in-limits, Accepted, accepted-has, outcome-none, filling-none, pass, no-checks, length-passes, cell-passes}
 use Rattle.picture.proofs.Windows.{by-rows, window-bound}
 use Rattle.picture.proofs.Planes.{plane-bound}
 use Rattle.table.specs.Table.{tableAt, tableOf, corner, fourCorners, readRectangle, readRows, readShape, readTable, readChecks, readCall, buildChecks, buildCall}

@@ -1,15 +1,16 @@
 -- The laws of refusals, and what accepted inputs have.
 -- Assumes nothing.
-use mathlib.Core.Path.{_≡_, refl, _∙_}
+use mathlib.Core.Path.{_≡_, refl, sym, ap, _∙_}
 use Prim.Native.Nat.{ℕ, _≤_, _<_}
-use mathlib.Core.Bool.{Bool, true, false, not, _&&_}
+use native.Mathlib.Omega.{arith}
+use mathlib.Core.Bool.{Bool, true, false, not, _&&_, true≢false}
 use mathlib.Core.List.{List, [], _∷_, _++_}
 use mathlib.Core.Option.{Option, none, some}
-use lib.Dec.{T, leb, ltb, eqb, leb→le, eqb→eq, eqb-refl, lt→ltb, le→leb, nltb→le}
+use lib.Dec.{T, leb, ltb, eqb, leb→le, ltb→lt, eqb→eq, eqb-refl, lt→ltb, le→leb, nltb→le}
 use lib.ListN.{length}
 use lib.IntN.{ℤ}
 use Rattle.numbers.proofs.Tests.{and-left, and-right, and-both, of-not, not-of, same-test}
-use Rattle.picture.specs.Refusal.{Outcome, Check, Filling, _when_, refused, answered, refusal, outcome, filling, numbersOf}
+use Rattle.picture.specs.Refusal.{Outcome, Check, Filling, _when_, refused, answered, refusal, numberOf, outcome, filling, numbersOf}
 use Rattle.picture.specs.declared.Window.{Window}
 use Rattle.picture.specs.Window.{windowLegal}
 use Rattle.picture.specs.declared.Size.{Size}
@@ -49,6 +50,65 @@ none-rest n false rest e = e
 pub pass-all : (before after : List Check) → refusal before ≡ none → refusal (before ++ after) ≡ refusal after
 pass-all [] after e = refl
 pass-all ((n when c) ∷ rest) after e = pass n c (rest ++ after) (none-head n c rest e) ∙ pass-all rest after (none-rest n c rest e)
+
+-- ---- the first refusal as a number, as code finds it: test by test
+pub number-none : 0 ≡ numberOf (refusal [])
+unfolding numberOf refusal
+number-none = refl
+
+-- a test r that code made, of what a check wants
+pub number-stop : (n : ℕ) (r b : Bool) (rest : List Check) → r ≡ b → not r ≡ true → n ≡ numberOf (refusal ((n when not b) ∷ rest))
+unfolding numberOf refusal
+number-stop n r true rest e t = absurd (true≢false (sym (rw e at t)))
+number-stop n r false rest e t = refl
+
+pub number-pass : (m n : ℕ) (r b : Bool) (rest : List Check) → r ≡ b → not r ≡ false → m ≡ numberOf (refusal rest) → m ≡ numberOf (refusal ((n when not b) ∷ rest))
+unfolding refusal
+number-pass m n r true rest e t h = h
+number-pass m n r false rest e t h = absurd (true≢false (rw e at t))
+
+-- a check of which code knows whether its condition holds
+pub number-stop-on : (n : ℕ) (c : Bool) (rest : List Check) → T c → n ≡ numberOf (refusal ((n when c) ∷ rest))
+unfolding numberOf refusal
+number-stop-on n true rest t = refl
+number-stop-on n false rest t = absurd t
+
+pub number-pass-on : (m n : ℕ) (c : Bool) (rest : List Check) → c ≡ false → m ≡ numberOf (refusal rest) → m ≡ numberOf (refusal ((n when c) ∷ rest))
+number-pass-on m n c rest e h = h ∙ ap numberOf (sym (pass n c rest e))
+
+-- a group of checks that refuses, or passes on to the rest
+number-some : (r : Option ℕ) (n : ℕ) → n ≡ numberOf r → (n ≡ 0 → ⊥) → r ≡ some n
+unfolding numberOf
+number-some none n e h = absurd (h e)
+number-some (some m) n e h = ap some (sym e)
+
+stop-all : (n : ℕ) (before after : List Check) → refusal before ≡ some n → refusal (before ++ after) ≡ some n
+unfolding refusal
+stop-all n [] after e = cc
+stop-all n ((m when true) ∷ rest) after e = e
+stop-all n ((m when false) ∷ rest) after e = stop-all n rest after e
+
+pub number-before : (n : ℕ) (before after : List Check) → n ≡ numberOf (refusal before) → (n ≡ 0 → ⊥) → n ≡ numberOf (refusal (before ++ after))
+unfolding numberOf
+number-before n before after e h = rw (stop-all n before after (number-some (refusal before) n e h))
+
+-- no check bears the number 0, so 0 means that the call is taken
+abbrev pub numbered : List Check → Bool
+numbered [] = true
+numbered ((n when c) ∷ rest) = ltb 0 n && numbered rest
+
+pub number-0 : (checks : List Check) → T (numbered checks) → numberOf (refusal checks) ≡ 0 → refusal checks ≡ none
+unfolding numberOf refusal
+number-0 [] t e = refl
+number-0 ((n when true) ∷ rest) t e = absurd (omega (arith, ltb→lt 0 n (and-left (ltb 0 n) (numbered rest) t)))
+number-0 ((n when false) ∷ rest) t e = number-0 rest (and-right (ltb 0 n) (numbered rest) t) e
+
+pub number-after : (m : ℕ) (before after : List Check) → T (numbered before) → numberOf (refusal before) ≡ 0 → m ≡ numberOf (refusal after) → m ≡ numberOf (refusal (before ++ after))
+number-after m before after t e h = h ∙ ap numberOf (sym (pass-all before after (number-0 before t e)))
+
+-- a call whose first refusal is n, not 0
+pub number-refused : (n : ℕ) (checks : List Check) → n ≡ numberOf (refusal checks) → (n ≡ 0 → ⊥) → refusal checks ≡ some n
+number-refused n checks e h = number-some (refusal checks) n e h
 
 -- ---- the answer
 pub outcome-none : {A : Type 0} (r : Option ℕ) (a : A) → r ≡ none → outcome r a ≡ answered a
