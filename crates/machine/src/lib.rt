@@ -1,0 +1,71 @@
+// The few operations that the language lacks: sums of i64 that wrap at 64 bits, the difference of two levels, and the magnitude of an i64.
+ghost use mathlib.Core.Path.{_≡_};
+ghost use lib.IntN.{pos, natAbs, _+ℤ_, _-ℤ_};
+ghost use Rattle.numbers.specs.Wrap.{residue, spelled, wrap};
+
+pub mod wide; // wide.rt: products past 64 bits
+
+// The 64 bits of a.
+fn bits(a: i64) -> u64
+    ensures { λ r. ⌜ r ≡ residue a ⌝ }
+{
+    if a >= 0 {
+        a as u64
+    } else {
+        u64::MAX - ((-1 - a) as u64)
+    }
+}
+
+// The number that 64 bits spell.
+fn of_bits(n: u64) -> i64
+    ensures { λ r. ⌜ r ≡ spelled n ⌝ }
+{
+    if n <= 0x7fff_ffff_ffff_ffff {
+        n as i64
+    } else {
+        -1 - ((u64::MAX - n) as i64)
+    }
+}
+
+// a + b, wrapped at 64 bits.
+pub fn wrapping_add(a: i64, b: i64) -> i64
+    ensures { λ r. ⌜ r ≡ wrap (a +ℤ b) ⌝ }
+{
+    of_bits(std::num::wrapping_add_u64(bits(a), bits(b)))
+}
+
+// a - b, wrapped at 64 bits.
+pub fn wrapping_sub(a: i64, b: i64) -> i64
+    ensures { λ r. ⌜ r ≡ wrap (a -ℤ b) ⌝ }
+{
+    of_bits(std::num::wrapping_sub_u64(bits(a), bits(b)))
+}
+
+// e + 32,768: it widens with zeros, which costs less than the sign does.
+fn raised(e: i16) -> u16
+    ensures { λ r. ⌜ pos r ≡ e +ℤ pos 32768 ⌝ }
+{
+    if e >= 0 {
+        (e as u16) + 32768
+    } else {
+        32767 - ((-1 - e) as u16)
+    }
+}
+
+// e - l, of two levels.
+pub fn difference(e: i16, l: i16) -> i64
+    ensures { λ r. ⌜ r ≡ e -ℤ l ⌝ }
+{
+    raised(e) as i64 - raised(l) as i64
+}
+
+// |z|, also of the least i64, which has no opposite there.
+pub fn magnitude(z: i64) -> u64
+    ensures { λ r. ⌜ r ≡ natAbs z ⌝ }
+{
+    if z >= 0 {
+        z as u64
+    } else {
+        ((-1 - z) as u64) + 1
+    }
+}
