@@ -58,7 +58,7 @@ nonneg : (k : ℤ) → T (leZ (pos 0) k) → dn k ≡ 0
 nonneg (pos n) t = refl
 nonneg (negsuc n) t = absurd t
 
-hexagon-parts : (k h : ℤ) → T (hexagonLegal k h) → T (between (pos 0) (pos 127) k) × T (between (pos 0) (pos 127) h)
+pub hexagon-parts : (k h : ℤ) → T (hexagonLegal k h) → T (between (pos 0) (pos 127) k) × T (between (pos 0) (pos 127) h)
 unfolding hexagonLegal
 hexagon-parts k h t =
     let a = leZ (pos 0) k in

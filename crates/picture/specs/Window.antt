@@ -58,6 +58,10 @@ shapeOf w = go (w .shape)
     go (suc (suc zero)) = slanted (diamond (natAbs (w .first)))
     go (suc (suc (suc n))) = slanted (hexagon (natAbs (w .first)) (natAbs (w .second)))
 
+abbrev pub isRectangle : Shape → Bool
+isRectangle (rectangle a b) = true
+isRectangle (slanted s) = false
+
 -- a shape by its rows: |p| is at most the height, and |q| at most the reach at |p|
 unfoldable pub height : Shape → ℕ
 height (rectangle a b) = a

@@ -1,6 +1,8 @@
 // The picture, its window, and two pictures under a shift: their types, the checks, a plane's row, and the direct sum.
 
 pub mod checks; // checks.rt: the conditions 1 to 6, and the first refusal of a call
+pub mod shape; // shape.rt: a legal window by its rows
+pub mod clip; // clip.rt: the ends of a window, clipped to the picture
 
 // "A picture has 1 to 256 rows and 1 to 1,024 columns."
 pub struct Size {
