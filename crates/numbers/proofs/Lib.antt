@@ -10,3 +10,5 @@ pub mod SumOrders
 pub mod Grids
 pub mod Wraps
 pub mod Rounds
+pub mod Writes
+pub mod Widths
