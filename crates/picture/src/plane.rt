@@ -7,7 +7,6 @@ ghost use lib.ListN.{length, getD};
 ghost use Rattle.numbers.specs.Grid.{tabulate};
 ghost use Rattle.picture.specs.Picture.{source, planeAt, planeValue};
 ghost use Rattle.picture.specs.Overlaps.{Overlapping, paddedValue, PaddedAsked, rowValue, RowAsked, PartAsked};
-
 use super::Shift;
 use super::Size;
 
@@ -156,7 +155,13 @@ fn row_part(
     }
     let at = other + (start - from);
     let until = at + (stop - start);
-    padded(plane, &levels[start..stop], &others[at..until], start - first, out);
+    padded(
+        plane,
+        &levels[start..stop],
+        &others[at..until],
+        start - first,
+        out,
+    );
 }
 
 // The cells (row, first), (row, first + 1), .. of the plane, as many as out has room for.
