@@ -7,3 +7,4 @@ pub mod Direct
 pub mod Offsets
 pub mod Answers
 pub mod Overlaps
+pub mod Summing

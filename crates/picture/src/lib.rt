@@ -4,6 +4,7 @@ pub mod checks; // checks.rt: the conditions 1 to 6, and the first refusal of a 
 pub mod shape; // shape.rt: a legal window by its rows
 pub mod clip; // clip.rt: the ends of a window, clipped to the picture
 pub mod plane; // plane.rt: a part of a row of a plane
+pub mod direct; // direct.rt: the direct sum of checked inputs
 
 // "A picture has 1 to 256 rows and 1 to 1,024 columns."
 pub struct Size {
