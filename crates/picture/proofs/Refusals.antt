@@ -110,6 +110,15 @@ number-after m before after t e h = h ∙ ap numberOf (sym (pass-all before afte
 pub number-refused : (n : ℕ) (checks : List Check) → n ≡ numberOf (refusal checks) → (n ≡ 0 → ⊥) → refusal checks ≡ some n
 number-refused n checks e h = number-some (refusal checks) n e h
 
+-- a call that is taken passes both groups
+pub none-before : (before after : List Check) → refusal (before ++ after) ≡ none → refusal before ≡ none
+none-before [] after e = no-checks
+none-before ((n when c) ∷ rest) after e =
+    pass n c rest (none-head n c (rest ++ after) e) ∙ none-before rest after (none-rest n c (rest ++ after) e)
+
+pub none-after : (before after : List Check) → refusal (before ++ after) ≡ none → refusal after ≡ none
+none-after before after e = sym (pass-all before after (none-before before after e)) ∙ e
+
 -- ---- the answer
 pub outcome-none : {A : Type 0} (r : Option ℕ) (a : A) → r ≡ none → outcome r a ≡ answered a
 unfolding outcome
@@ -232,3 +241,25 @@ direct-answers x i j e hi hj =
     (pass-all (inputChecks x) (check6 z i j ∷ []) e
     ∙ pass 6 (not (ltb i (z .rows) && ltb j (z .columns))) [] (cell-passes z i j hi hj)
     ∙ no-checks)
+
+-- the direct call that code refused, and the one that it took
+pub direct-refused : (x : Inputs) (i j n : ℕ) → n ≡ numberOf (refusal (directChecks x i j)) → (n ≡ 0 → ⊥) → refused n ≡ directCall x i j
+unfolding directCall
+direct-refused x i j n e h = sym (outcome-some (refusal (directChecks x i j)) (directSum x i j) n (number-refused n (directChecks x i j) e h))
+
+pub record Inside (z : Size) (i j : ℕ) : Type 0 where
+  pub row : i < z .rows
+  pub column : j < z .columns
+
+pub cell-inside : (z : Size) (i j : ℕ) → not (ltb i (z .rows) && ltb j (z .columns)) ≡ false → Inside z i j
+cell-inside z i j e =
+    let t = of-not (ltb i (z .rows) && ltb j (z .columns)) e in
+    record { row = ltb→lt i (z .rows) (and-left (ltb i (z .rows)) (ltb j (z .columns)) t); column = ltb→lt j (z .columns) (and-right (ltb i (z .rows)) (ltb j (z .columns)) t) }
+
+pub direct-taken : (x : Inputs) (i j n : ℕ) → n ≡ numberOf (refusal (directChecks x i j)) → n ≡ 0 → accepted x × Inside (x .source .size) i j
+direct-taken x i j n e h =
+    let z = x .source .size in
+    let taken = number-0 (directChecks x i j) tt (sym e ∙ h) in (
+      none-before (inputChecks x) (check6 z i j ∷ []) taken,
+      cell-inside z i j (none-head 6 (not (ltb i (z .rows) && ltb j (z .columns))) [] (none-after (inputChecks x) (check6 z i j ∷ []) taken)),
+    )

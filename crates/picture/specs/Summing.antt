@@ -12,7 +12,7 @@ use Rattle.picture.specs.declared.Size.{Size}
 use Rattle.picture.specs.declared.Window.{Window}
 use Rattle.picture.specs.Size.{sizeLegal, cells, rowGap, columnGap}
 use Rattle.picture.specs.Window.{windowLegal, shapeOf, reach}
-use Rattle.picture.specs.Picture.{Inputs, planeAt}
+use Rattle.picture.specs.Picture.{Levels, Inputs, planeAt}
 
 -- the part of row m that lies in the rows of the window on (i, j)
 unfoldable pub windowRow : Inputs → (i j m : ℕ) → ℤ
@@ -20,11 +20,13 @@ windowRow x i j m =
     let z = x .source .size in
     sumTo (z .columns) (λ n. pick (leb (columnGap z j n) (reach (shapeOf (x .window)) (rowGap z i m))) (planeAt (x .source) m n))
 
--- pictures of a legal size, a legal window, and a cell of the picture
+-- pictures of levels, of a legal size, a legal window, and a cell of the picture
 pub record SumAsked (z : Size) (f g : List ℤ) (w : Window) (c : Cell) : Type 0 where
   pub size : T (sizeLegal z)
   pub length-f : length f ≡ cells z
   pub length-g : length g ≡ cells z
+  pub levels-f : Levels f
+  pub levels-g : Levels g
   pub window : T (windowLegal w)
   pub row-inside : c .row < z .rows
   pub column-inside : c .column < z .columns

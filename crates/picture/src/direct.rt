@@ -7,7 +7,6 @@ ghost use Rattle.numbers.specs.Wrap.{wrap};
 ghost use Rattle.picture.specs.Picture.{inputs};
 ghost use Rattle.picture.specs.Direct.{directSum};
 ghost use Rattle.picture.specs.Summing.{windowRow, RowSumAsked, SumAsked};
-
 use super::Cell;
 use super::Shift;
 use super::Size;
@@ -77,9 +76,7 @@ pub fn sum(
     let mut s = 0i64;
     let mut m = clip::low(row, height);
     while m < bottom {
-        s = add_row(
-            size, f, g, window, shift, plane, cell, m, s, &mut buffer,
-        );
+        s = add_row(size, f, g, window, shift, plane, cell, m, s, &mut buffer);
         m += 1;
     }
     s
