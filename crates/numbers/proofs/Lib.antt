@@ -12,3 +12,6 @@ pub mod Wraps
 pub mod Rounds
 pub mod Writes
 pub mod Widths
+pub mod Running
+pub mod Lines
+pub mod Divisions

@@ -1,15 +1,15 @@
 -- Reading the table that was built gives the direct sum.
 -- Assumes nothing.
 use mathlib.Core.Path.{_≡_, refl, sym, _∙_, ap}
-use Prim.Native.Nat.{ℕ, zero, suc, _+_, _-_, _*_, _^_, _≤_, _<_, min}
+use Prim.Native.Nat.{ℕ, zero, suc, _+_, _-_, _^_, _≤_, _<_, min}
 use native.Mathlib.Omega.{arith}
 use native.Mathlib.Nat.{mul-le-mul}
-use mathlib.Core.Bool.{Bool, true, false, not, _&&_}
-use mathlib.Core.List.{List, [], _∷_, _++_}
-use mathlib.Core.Option.{Option, none, some}
-use lib.Dec.{T, leb, ltb, eqb, lt→ltb, eqb-refl}
-use lib.ListN.{length, getD}
-use lib.IntN.{ℤ, pos, negsuc, natAbs, _+ℤ_, _-ℤ_}
+use mathlib.Core.Bool.{not, _&&_}
+use mathlib.Core.List.{List, [], _∷_}
+use mathlib.Core.Option.{none}
+use lib.Dec.{leb, ltb, eqb}
+use lib.ListN.{length}
+use lib.IntN.{ℤ, pos, natAbs}
 use Rattle.numbers.specs.Sum.{sumTo, pick, dist}
 use Rattle.numbers.specs.Grid.{grid}
 use Rattle.numbers.specs.Wrap.{wrap}
@@ -17,16 +17,16 @@ use Rattle.numbers.proofs.Linear.{Diff, any, sums, ring}
 use Rattle.numbers.proofs.Sums.{sum-suc, sum-cong, sum-zero, sum-sub, sum-near}
 use Rattle.numbers.proofs.Grids.{length-rows, getD-grid}
 use Rattle.numbers.proofs.Wraps.{wrap-small}
-use Rattle.picture.specs.Refusal.{Filling, answered, refusal, numbersOf, _when_}
+use Rattle.picture.specs.Refusal.{answered, refusal, numbersOf}
 use Rattle.numbers.proofs.Tests.{not-of}
 use Rattle.picture.specs.declared.Window.{Window}
 use Rattle.picture.specs.Window.{Shape, rectangle, slanted, windowLegal, shapeOf, height, reach}
 use Rattle.picture.specs.declared.Size.{Size}
 use Rattle.picture.specs.Size.{rowGap, columnGap, cells, sizeLegal}
 use Rattle.picture.specs.Picture.{Levels, Source, Inputs, planeAt, shiftLegal}
-use Rattle.picture.specs.Conditions.{accepted, check1, check3, check6, check8}
+use Rattle.picture.specs.Conditions.{accepted}
 use Rattle.picture.specs.Direct.{windowSum, directSum}
-use Rattle.picture.proofs.Refusals.{InLimits, in-limits, Accepted, accepted-has, outcome-none, filling-none, pass, no-checks, length-passes, cell-passes}
+use Rattle.picture.proofs.Refusals.{InLimits, in-limits, accepted-has, outcome-none, filling-none, pass, no-checks, length-passes, cell-passes}
 use Rattle.picture.proofs.Windows.{by-rows, window-bound}
 use Rattle.picture.proofs.Planes.{plane-bound}
 use Rattle.table.specs.Table.{tableAt, tableOf, corner, fourCorners, readRectangle, readRows, readShape, readTable, readChecks, readCall, buildChecks, buildCall}

@@ -1,9 +1,7 @@
 -- "Cumulative table": building and reading.
 -- Assumes nothing.
 use Prim.Native.Nat.{ℕ, zero, suc, _+_, _*_, _-_, min}
-use mathlib.Core.Bool.{Bool, true, false}
 use mathlib.Core.List.{List, [], _∷_, _++_}
-use mathlib.Core.Option.{Option, none, some}
 use lib.Dec.{leb}
 use lib.ListN.{length, getD}
 use lib.IntN.{ℤ, pos, _+ℤ_, _-ℤ_}
@@ -15,9 +13,8 @@ use Rattle.picture.specs.declared.Window.{Window}
 use Rattle.picture.specs.Window.{Shape, rectangle, slanted, shapeOf, height, reach}
 use Rattle.picture.specs.declared.Size.{Size}
 use Rattle.picture.specs.Size.{rowGap, cells}
-use Rattle.picture.specs.declared.Shift.{Shift}
 use Rattle.picture.specs.Picture.{Source, planeAt}
-use Rattle.picture.specs.Conditions.{check1, check2, check3, check4, check5, check6, check8}
+use Rattle.picture.specs.Conditions.{check1, check3, check4, check5, check6, check8, pictureChecks}
 
 -- ---- building
 -- "T(i, j) = the plane's sum over all (p, q) with p ≤ i and q ≤ j"
@@ -31,7 +28,7 @@ tableOf x = grid (x .size .rows) (x .size .columns) (tableAt (planeAt x))
 -- building takes pictures, shift, plane and the area: 1, 2, 4, 5, 8
 abbrev pub buildChecks : Source → List ℤ → List Check
 buildChecks x area =
-    check1 (x .size) ∷ check2 (x .size) (x .f) ∷ check2 (x .size) (x .g) ∷ check4 (x .shift) ∷ check5 (x .plane) ∷ check8 (cells (x .size)) (length area) ∷ []
+    pictureChecks (x .size) (x .f) (x .g) ++ (check4 (x .shift) ∷ check5 (x .plane) ∷ check8 (cells (x .size)) (length area) ∷ [])
 
 unfoldable pub buildCall : Source → List ℤ → Filling
 buildCall x area = filling (refusal (buildChecks x area)) area (tableOf x)
