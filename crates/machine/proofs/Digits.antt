@@ -80,27 +80,28 @@ module _ (high low k : ℕ) where
     pub fourth-fits : Fits w64 fourth
     fourth-fits = carry third (omega arith) s third-fits
 
--- ---- the order, by the words
+-- ---- the order of x and y, by their words
 -- the upper words differ
-pub upper-less : (h l h' l' : ℕ) → h < h' → l < 2 ^ 64 → h * 2 ^ 64 + l < h' * 2 ^ 64 + l'
-upper-less h l h' l' p q = omega arith
+pub upper-less : (x-high x-low y-high y-low : ℕ) → x-high < y-high → x-low < 2 ^ 64 → x-high * 2 ^ 64 + x-low < y-high * 2 ^ 64 + y-low
+upper-less x-high x-low y-high y-low h l = omega arith
 
 -- the upper words are the same
-pub upper-same : (B h h' l l' : ℕ) → h ≡ h' → leb l l' ≡ leb (h * B + l) (h' * B + l')
-upper-same B h h' l l' e = go (leb l l') refl
+pub upper-same : (B x-high y-high x-low y-low : ℕ) → x-high ≡ y-high → leb x-low y-low ≡ leb (x-high * B + x-low) (y-high * B + y-low)
+upper-same B x-high y-high x-low y-low e = go (leb x-low y-low) refl
   where
-    same : h * B ≡ h' * B
+    same : x-high * B ≡ y-high * B
     same = ap (λ (n : ℕ). n * B) e
 
-    go : (t : Bool) → leb l l' ≡ t → t ≡ leb (h * B + l) (h' * B + l')
-    go true q = sym (le-leb (h * B + l) (h' * B + l') (omega (arith, leb-true l l' q, same)))
-    go false q = sym (lt-leb (h * B + l) (h' * B + l') (omega (arith, leb-false l l' q, same)))
+    go : (t : Bool) → leb x-low y-low ≡ t → t ≡ leb (x-high * B + x-low) (y-high * B + y-low)
+    go true q = sym (le-leb (x-high * B + x-low) (y-high * B + y-low) (omega (arith, leb-true x-low y-low q, same)))
+    go false q = sym (lt-leb (x-high * B + x-low) (y-high * B + y-low) (omega (arith, leb-false x-low y-low q, same)))
 
 -- the top words of three are the same
-regroup : (B t m l : ℕ) → t * (B * B) + (m * B + l) ≡ (t * B + m) * B + l
-regroup B t m l = omega arith
+regroup : (B top middle low : ℕ) → top * (B * B) + (middle * B + low) ≡ (top * B + middle) * B + low
+regroup B top middle low = omega arith
 
-pub top-same : (t t' m m' l l' : ℕ) → t ≡ t' → leb (m * 2 ^ 64 + l) (m' * 2 ^ 64 + l') ≡ leb ((t * 2 ^ 64 + m) * 2 ^ 64 + l) ((t' * 2 ^ 64 + m') * 2 ^ 64 + l')
-top-same t t' m m' l l' e =
-    upper-same (2 ^ 64 * 2 ^ 64) t t' (m * 2 ^ 64 + l) (m' * 2 ^ 64 + l') e
-    ∙ ap₂ leb (regroup (2 ^ 64) t m l) (regroup (2 ^ 64) t' m' l')
+pub top-same : (x-top y-top x-middle y-middle x-low y-low : ℕ) → x-top ≡ y-top →
+    leb (x-middle * 2 ^ 64 + x-low) (y-middle * 2 ^ 64 + y-low) ≡ leb ((x-top * 2 ^ 64 + x-middle) * 2 ^ 64 + x-low) ((y-top * 2 ^ 64 + y-middle) * 2 ^ 64 + y-low)
+top-same x-top y-top x-middle y-middle x-low y-low e =
+    upper-same (2 ^ 64 * 2 ^ 64) x-top y-top (x-middle * 2 ^ 64 + x-low) (y-middle * 2 ^ 64 + y-low) e
+    ∙ ap₂ leb (regroup (2 ^ 64) x-top x-middle x-low) (regroup (2 ^ 64) y-top y-middle y-low)

@@ -1,14 +1,14 @@
 -- The variance is not negative, and C² ≤ Vf · Vg: by the sum of the squares (a + b x + c y)². Assumes nothing.
-use mathlib.Core.Path.{_≡_, refl, sym, ap, _∙_, subst}
-use mathlib.Core.Bool.{Bool, true, false, cond}
-use mathlib.Core.List.{List, [], _∷_}
-use Prim.Native.Nat.{ℕ, zero, suc, _+_, _*_, _≤_}
+use mathlib.Core.Path.{_≡_, refl, sym, subst}
+use mathlib.Core.Bool.{Bool, true, false}
+use mathlib.Core.List.{[], _∷_}
+use Prim.Native.Nat.{zero, suc}
 use native.Mathlib.Omega.{arith}
-use lib.IntN.{ℤ, pos, negsuc, negℤ, _+ℤ_, _-ℤ_, _*ℤ_, zero-*ℤ}
+use lib.IntN.{ℤ, pos, negsuc, _+ℤ_, _-ℤ_, _*ℤ_, zero-*ℤ}
 use lib.Signed.{_≤ℤ_, _<ℤ_, ≤ℤ-refl}
-use Rattle.numbers.proofs.Integers.{up, dn, mul-law, sub-lawℤ, leℤ, ofLe, ltℤ, eqℤ}
+use Rattle.numbers.proofs.Integers.{up, mul-law, sub-lawℤ, ofLe, ltℤ}
 use Rattle.numbers.proofs.Laws.{add-nonneg, sq-nonneg, le-of-sub, sub-of-le, pos-cancel}
-use Rattle.numbers.proofs.Ring.{Poly, X, K, _⊕_, _⊖_, _⊗_, ring, eval}
+use Rattle.numbers.proofs.Ring.{Poly, X, K, _⊕_, _⊖_, _⊗_, ring}
 
 abbrev pub var : (N S A : ℤ) → ℤ
 var N S A = N *ℤ A -ℤ S *ℤ S
@@ -22,15 +22,15 @@ Q N S T A B P a b c =
     a *ℤ a *ℤ N +ℤ b *ℤ b *ℤ A +ℤ c *ℤ c *ℤ B +ℤ pos 2 *ℤ (a *ℤ b *ℤ S +ℤ a *ℤ c *ℤ T +ℤ b *ℤ c *ℤ P)
 
 -- the same as polynomials
-abbrev Q' : (N S T A B P a b c : Poly) → Poly
-Q' N S T A B P a b c =
+abbrev polyQ : (N S T A B P a b c : Poly) → Poly
+polyQ N S T A B P a b c =
     a ⊗ a ⊗ N ⊕ b ⊗ b ⊗ A ⊕ c ⊗ c ⊗ B ⊕ K (pos 2) ⊗ (a ⊗ b ⊗ S ⊕ a ⊗ c ⊗ T ⊕ b ⊗ c ⊗ P)
 
-abbrev var' : (N S A : Poly) → Poly
-var' N S A = N ⊗ A ⊖ S ⊗ S
+abbrev polyVar : (N S A : Poly) → Poly
+polyVar N S A = N ⊗ A ⊖ S ⊗ S
 
-abbrev cov' : (N S T P : Poly) → Poly
-cov' N S T P = N ⊗ P ⊖ S ⊗ T
+abbrev polyCov : (N S T P : Poly) → Poly
+polyCov N S T P = N ⊗ P ⊖ S ⊗ T
 
 -- what all sums have: the form is nowhere negative
 unfoldable pub Psd : (N S T A B P : ℤ) → Type 0
@@ -41,16 +41,16 @@ Psd N S T A B P = (a b c : ℤ) → pos 0 ≤ℤ (Q N S T A B P a b c)
 abbrev R : (F C G b c : ℤ) → ℤ
 R F C G b c = b *ℤ b *ℤ F +ℤ pos 2 *ℤ (b *ℤ c) *ℤ C +ℤ c *ℤ c *ℤ G
 
-abbrev R' : (F C G b c : Poly) → Poly
-R' F C G b c = b ⊗ b ⊗ F ⊕ K (pos 2) ⊗ (b ⊗ c) ⊗ C ⊕ c ⊗ c ⊗ G
+abbrev polyR : (F C G b c : Poly) → Poly
+polyR F C G b c = b ⊗ b ⊗ F ⊕ K (pos 2) ⊗ (b ⊗ c) ⊗ C ⊕ c ⊗ c ⊗ G
 
 -- at a = -(b S + c T), with b and c times N
 scaled : (N S T A B P b c : ℤ)
     → Q N S T A B P (pos 0 -ℤ (b *ℤ S +ℤ c *ℤ T)) (b *ℤ N) (c *ℤ N) ≡ N *ℤ R (var N S A) (cov N S T P) (var N T B) b c
 scaled N S T A B P b c =
     ring
-    (Q' (X 0) (X 1) (X 2) (X 3) (X 4) (X 5) (K (pos 0) ⊖ (X 6 ⊗ X 1 ⊕ X 7 ⊗ X 2)) (X 6 ⊗ X 0) (X 7 ⊗ X 0))
-    (X 0 ⊗ R' (var' (X 0) (X 1) (X 3)) (cov' (X 0) (X 1) (X 2) (X 5)) (var' (X 0) (X 2) (X 4)) (X 6) (X 7))
+    (polyQ (X 0) (X 1) (X 2) (X 3) (X 4) (X 5) (K (pos 0) ⊖ (X 6 ⊗ X 1 ⊕ X 7 ⊗ X 2)) (X 6 ⊗ X 0) (X 7 ⊗ X 0))
+    (X 0 ⊗ polyR (polyVar (X 0) (X 1) (X 3)) (polyCov (X 0) (X 1) (X 2) (X 5)) (polyVar (X 0) (X 2) (X 4)) (X 6) (X 7))
     (N ∷ S ∷ T ∷ A ∷ B ∷ P ∷ b ∷ c ∷ []) tt
 
 unfoldable pub NonNeg : ℤ → Type 0
@@ -69,9 +69,9 @@ unfolding NonNeg
 form (pos (suc f)) C G h =
     let F = pos (suc f) in
     le-of-sub (C *ℤ C) (F *ℤ G) (pos-cancel F (F *ℤ G -ℤ C *ℤ C) (ltℤ (pos 0) F (omega arith))
-    (subst NonNeg (ring (R' (X 0) (X 1) (X 2) (K (pos 0) ⊖ X 1) (X 0)) (X 0 ⊗ (X 0 ⊗ X 2 ⊖ X 1 ⊗ X 1)) (F ∷ C ∷ G ∷ []) tt)
+    (subst NonNeg (ring (polyR (X 0) (X 1) (X 2) (K (pos 0) ⊖ X 1) (X 0)) (X 0 ⊗ (X 0 ⊗ X 2 ⊖ X 1 ⊗ X 1)) (F ∷ C ∷ G ∷ []) tt)
     (h (pos 0 -ℤ C) F)))
-form (negsuc f) C G h = absurd (neg-one (subst NonNeg (ring (R' (X 0) (X 1) (X 2) (K (pos 1)) (K (pos 0))) (X 0) (negsuc f ∷ C ∷ G ∷ []) tt) (h (pos 1) (pos 0))))
+form (negsuc f) C G h = absurd (neg-one (subst NonNeg (ring (polyR (X 0) (X 1) (X 2) (K (pos 1)) (K (pos 0))) (X 0) (negsuc f ∷ C ∷ G ∷ []) tt) (h (pos 1) (pos 0))))
   where
     neg-one : pos 0 ≤ℤ negsuc f → ⊥
     neg-one p = p .le
@@ -79,7 +79,7 @@ form (pos zero) C G h = flat G h
   where
     -- with F = 0 the form at b = -C (G + 1), c = 1 ... is G - 2 C² (|G| + 1)
     at : (G : ℤ) → ((b c : ℤ) → pos 0 ≤ℤ (R (pos 0) C G b c)) → pos 0 ≤ℤ (G -ℤ pos 2 *ℤ (pos (suc (up G))) *ℤ (C *ℤ C))
-    at G h = subst NonNeg (ring (R' (K (pos 0)) (X 0) (X 1) (K (pos 0) ⊖ X 0 ⊗ X 2) (K (pos 1))) (X 1 ⊖ K (pos 2) ⊗ X 2 ⊗ (X 0 ⊗ X 0)) (C ∷ G ∷ pos (suc (up G)) ∷ []) tt)
+    at G h = subst NonNeg (ring (polyR (K (pos 0)) (X 0) (X 1) (K (pos 0) ⊖ X 0 ⊗ X 2) (K (pos 1))) (X 1 ⊖ K (pos 2) ⊗ X 2 ⊗ (X 0 ⊗ X 0)) (C ∷ G ∷ pos (suc (up G)) ∷ []) tt)
         (h (pos 0 -ℤ C *ℤ pos (suc (up G))) (pos 1))
 
     small : (G z : ℤ) → pos 0 ≤ℤ z → pos 0 ≤ℤ (G -ℤ pos 2 *ℤ (pos (suc (up G))) *ℤ z) → z ≤ℤ pos 0
@@ -94,7 +94,7 @@ form (pos zero) C G h = flat G h
 pub square-le : (N S T A B P : ℤ) → Psd N S T A B P → (S *ℤ S) ≤ℤ (N *ℤ A)
 unfolding Psd NonNeg
 square-le N S T A B P q = form N S A
-    (λ a b. subst NonNeg (ring (Q' (X 0) (X 1) (X 2) (X 3) (X 4) (X 5) (X 6) (X 7) (K (pos 0))) (R' (X 0) (X 1) (X 3) (X 6) (X 7)) (N ∷ S ∷ T ∷ A ∷ B ∷ P ∷ a ∷ b ∷ []) tt)
+    (λ a b. subst NonNeg (ring (polyQ (X 0) (X 1) (X 2) (X 3) (X 4) (X 5) (X 6) (X 7) (K (pos 0))) (polyR (X 0) (X 1) (X 3) (X 6) (X 7)) (N ∷ S ∷ T ∷ A ∷ B ∷ P ∷ a ∷ b ∷ []) tt)
     (q a b (pos 0)))
 
 pub var-nonneg : (N S T A B P : ℤ) → Psd N S T A B P → pos 0 ≤ℤ (var N S A)
@@ -104,7 +104,7 @@ var-nonneg N S T A B P q = sub-of-le (S *ℤ S) (N *ℤ A) (square-le N S T A B 
 pub square-le-T : (N S T A B P : ℤ) → Psd N S T A B P → (T *ℤ T) ≤ℤ (N *ℤ B)
 unfolding Psd NonNeg
 square-le-T N S T A B P q = form N T B
-    (λ a c. subst NonNeg (ring (Q' (X 0) (X 1) (X 2) (X 3) (X 4) (X 5) (X 6) (K (pos 0)) (X 7)) (R' (X 0) (X 2) (X 4) (X 6) (X 7)) (N ∷ S ∷ T ∷ A ∷ B ∷ P ∷ a ∷ c ∷ []) tt)
+    (λ a c. subst NonNeg (ring (polyQ (X 0) (X 1) (X 2) (X 3) (X 4) (X 5) (X 6) (K (pos 0)) (X 7)) (polyR (X 0) (X 2) (X 4) (X 6) (X 7)) (N ∷ S ∷ T ∷ A ∷ B ∷ P ∷ a ∷ c ∷ []) tt)
     (q a (pos 0) c))
 
 zero-of-square : (x z : ℤ) → (x *ℤ x) ≤ℤ (pos 0 *ℤ z) → x ≡ pos 0
@@ -123,7 +123,7 @@ cauchy (pos zero) S T A B P h q =
   where
     flat : (A B P : ℤ) → (cov (pos 0) (pos 0) (pos 0) P *ℤ cov (pos 0) (pos 0) (pos 0) P) ≤ℤ (var (pos 0) (pos 0) A *ℤ var (pos 0) (pos 0) B)
     flat A B P = subst (λ (w : ℤ). (cov (pos 0) (pos 0) (pos 0) P *ℤ cov (pos 0) (pos 0) (pos 0) P) ≤ℤ w)
-        (ring (cov' (K (pos 0)) (K (pos 0)) (K (pos 0)) (X 2) ⊗ cov' (K (pos 0)) (K (pos 0)) (K (pos 0)) (X 2)) (var' (K (pos 0)) (K (pos 0)) (X 0) ⊗ var' (K (pos 0)) (K (pos 0)) (X 1)) (A ∷ B ∷ P ∷ []) tt)
+        (ring (polyCov (K (pos 0)) (K (pos 0)) (K (pos 0)) (X 2) ⊗ polyCov (K (pos 0)) (K (pos 0)) (K (pos 0)) (X 2)) (polyVar (K (pos 0)) (K (pos 0)) (X 0) ⊗ polyVar (K (pos 0)) (K (pos 0)) (X 1)) (A ∷ B ∷ P ∷ []) tt)
         (≤ℤ-refl (cov (pos 0) (pos 0) (pos 0) P *ℤ cov (pos 0) (pos 0) (pos 0) P))
 cauchy (negsuc n) S T A B P h q = absurd (h .le)
 
@@ -138,16 +138,16 @@ unfolding NonNeg
 one-part true x y a b c =
     let w = a +ℤ b *ℤ x +ℤ c *ℤ y in
     subst NonNeg (ring ((X 2 ⊕ X 3 ⊗ X 0 ⊕ X 4 ⊗ X 1) ⊗ (X 2 ⊕ X 3 ⊗ X 0 ⊕ X 4 ⊗ X 1))
-    (Q' (K (pos 1)) (X 0) (X 1) (X 0 ⊗ X 0) (X 1 ⊗ X 1) (X 0 ⊗ X 1) (X 2) (X 3) (X 4)) (x ∷ y ∷ a ∷ b ∷ c ∷ []) tt) (sq-nonneg w)
+    (polyQ (K (pos 1)) (X 0) (X 1) (X 0 ⊗ X 0) (X 1 ⊗ X 1) (X 0 ⊗ X 1) (X 2) (X 3) (X 4)) (x ∷ y ∷ a ∷ b ∷ c ∷ []) tt) (sq-nonneg w)
 one-part false x y a b c =
-    subst NonNeg (ring (K (pos 0)) (Q' (K (pos 0)) (K (pos 0)) (K (pos 0)) (K (pos 0)) (K (pos 0)) (K (pos 0)) (X 0) (X 1) (X 2)) (a ∷ b ∷ c ∷ []) tt) (≤ℤ-refl (pos 0))
+    subst NonNeg (ring (K (pos 0)) (polyQ (K (pos 0)) (K (pos 0)) (K (pos 0)) (K (pos 0)) (K (pos 0)) (K (pos 0)) (X 0) (X 1) (X 2)) (a ∷ b ∷ c ∷ []) tt) (≤ℤ-refl (pos 0))
 
 -- the form of sums is the sum of the forms
 pub splits : (N S T A B P n s t q r p a b c : ℤ)
     → Q N S T A B P a b c +ℤ Q n s t q r p a b c ≡ Q (N +ℤ n) (S +ℤ s) (T +ℤ t) (A +ℤ q) (B +ℤ r) (P +ℤ p) a b c
 splits N S T A B P n s t q r p a b c =
-    ring (Q' (X 0) (X 1) (X 2) (X 3) (X 4) (X 5) (X 12) (X 13) (X 14) ⊕ Q' (X 6) (X 7) (X 8) (X 9) (X 10) (X 11) (X 12) (X 13) (X 14))
-    (Q' (X 0 ⊕ X 6) (X 1 ⊕ X 7) (X 2 ⊕ X 8) (X 3 ⊕ X 9) (X 4 ⊕ X 10) (X 5 ⊕ X 11) (X 12) (X 13) (X 14))
+    ring (polyQ (X 0) (X 1) (X 2) (X 3) (X 4) (X 5) (X 12) (X 13) (X 14) ⊕ polyQ (X 6) (X 7) (X 8) (X 9) (X 10) (X 11) (X 12) (X 13) (X 14))
+    (polyQ (X 0 ⊕ X 6) (X 1 ⊕ X 7) (X 2 ⊕ X 8) (X 3 ⊕ X 9) (X 4 ⊕ X 10) (X 5 ⊕ X 11) (X 12) (X 13) (X 14))
     (N ∷ S ∷ T ∷ A ∷ B ∷ P ∷ n ∷ s ∷ t ∷ q ∷ r ∷ p ∷ a ∷ b ∷ c ∷ []) tt
 
 -- one cell's part

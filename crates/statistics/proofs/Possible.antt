@@ -1,31 +1,28 @@
--- The six direct sums of a cell are never impossible, and a coefficient lies from -1000 to 1000.
+-- The six direct sums of a cell are never impossible.
 -- Assumes nothing.
-use mathlib.Core.Path.{_≡_, refl, sym, _∙_, ap, subst}
-use Prim.Native.Nat.{ℕ, zero, suc, _+_, _-_, _*_, _^_, _≤_, _<_, min}
+use mathlib.Core.Path.{_≡_, refl, subst}
+use Prim.Native.Nat.{ℕ, zero, suc, _+_, _*_, _^_, _≤_}
 use native.Mathlib.Omega.{arith}
-use native.Mathlib.Nat.{mul-le-mul, mul-le-mul-right, mul-le-mul-left}
-use mathlib.Core.Bool.{Bool, true, false, not, _&&_, _||_}
-use mathlib.Core.List.{List, [], _∷_}
-use lib.Dec.{T, leb, ltb}
-use lib.IntN.{ℤ, pos, negsuc, negℤ, natAbs, _+ℤ_, _-ℤ_, _*ℤ_}
-use lib.Signed.{_≤ℤ_, _<ℤ_, ltZ, ≤ℤ-refl, ltZ-yes, <ℤ-irrefl, <ℤ-≤ℤ-trans}
+use mathlib.Core.Bool.{Bool, true, false, _&&_}
+use mathlib.Core.List.{[]}
+use lib.Dec.{T, leb}
+use lib.IntN.{ℤ, pos, negsuc, natAbs, _+ℤ_, _*ℤ_}
+use lib.Signed.{_≤ℤ_, ≤ℤ-refl}
 use Rattle.numbers.specs.Sum.{sumTo, pick}
-use Rattle.numbers.proofs.Integers.{up, dn, add-law, sub-lawℤ, mul-law, leℤ, ofLe, ofLt, ofEq}
+use Rattle.numbers.proofs.Integers.{leℤ}
 use Rattle.numbers.proofs.Laws.{add-nonneg, sub-of-le}
-use Rattle.numbers.proofs.Magnitudes.{size-mul, size-add}
+use Rattle.numbers.proofs.Magnitudes.{size-add}
 use Rattle.numbers.proofs.Sums.{near-bound, pick-bound}
-use Rattle.picture.specs.declared.Window.{Window}
-use Rattle.picture.specs.Window.{Shape, windowLegal, shapeOf, height, reach, holds}
-use Rattle.picture.specs.declared.Size.{Size}
+use Rattle.picture.specs.Window.{windowLegal, shapeOf, height, reach, holds}
 use Rattle.picture.specs.Size.{rowGap, columnGap}
 use Rattle.picture.specs.Picture.{Levels, Inputs, counts, planeValue, planeAt, levelOf, otherOf}
 use Rattle.picture.specs.Direct.{windowSum, directSum}
-use Rattle.picture.proofs.Windows.{Small, small, by-rows}
-use Rattle.numbers.proofs.Tests.{off}
+use Rattle.picture.proofs.Windows.{small, by-rows}
 use Rattle.picture.proofs.Planes.{level-bound, other-bound, product-bound}
 use Rattle.statistics.proofs.Forms.{Psd, psd-one, psd-add, only, var-nonneg, square-le-T, cauchy}
+use Rattle.statistics.proofs.Bounds.{Possible, possible-of}
 use Rattle.statistics.specs.declared.Sums.{Sums}
-use Rattle.statistics.specs.SixSums.{sixSums, onPlane, Vf, Vg, covariance, impossible}
+use Rattle.statistics.specs.SixSums.{sixSums, onPlane, impossible}
 
 -- what the sums over any cells have, and the sums of two groups of cells together
 pub record Fair (z : Sums) : Type 0 where
@@ -33,10 +30,10 @@ pub record Fair (z : Sums) : Type 0 where
   pub count : pos 0 ≤ℤ (z .n)
   pub first : natAbs (z .s) ≤ 32768 * natAbs (z .n)
   pub second : natAbs (z .t) ≤ 32768 * natAbs (z .n)
-  pub square : pos 0 ≤ℤ (z .a)
-  pub squares : natAbs (z .a) ≤ 2 ^ 30 * natAbs (z .n)
-  pub square′ : pos 0 ≤ℤ (z .b)
-  pub squares′ : natAbs (z .b) ≤ 2 ^ 30 * natAbs (z .n)
+  pub square-f : pos 0 ≤ℤ (z .a)
+  pub squares-f : natAbs (z .a) ≤ 2 ^ 30 * natAbs (z .n)
+  pub square-g : pos 0 ≤ℤ (z .b)
+  pub squares-g : natAbs (z .b) ≤ 2 ^ 30 * natAbs (z .n)
   pub product : natAbs (z .p) ≤ 2 ^ 30 * natAbs (z .n)
 
 abbrev pub plus : Sums → Sums → Sums
@@ -55,10 +52,10 @@ fair-plus x y g h =
       count = add-nonneg (g .count) (h .count);
       first = omega (arith, e, size-add (x .s) (y .s), g .first, h .first);
       second = omega (arith, e, size-add (x .t) (y .t), g .second, h .second);
-      square = add-nonneg (g .square) (h .square);
-      squares = omega (arith, e, size-add (x .a) (y .a), g .squares, h .squares);
-      square′ = add-nonneg (g .square′) (h .square′);
-      squares′ = omega (arith, e, size-add (x .b) (y .b), g .squares′, h .squares′);
+      square-f = add-nonneg (g .square-f) (h .square-f);
+      squares-f = omega (arith, e, size-add (x .a) (y .a), g .squares-f, h .squares-f);
+      square-g = add-nonneg (g .square-g) (h .square-g);
+      squares-g = omega (arith, e, size-add (x .b) (y .b), g .squares-g, h .squares-g);
       product = omega (arith, e, size-add (x .p) (y .p), g .product, h .product);
     }
 
@@ -72,10 +69,10 @@ fair-one true x y h k = record {
   count = leℤ (pos 0) (pos 1) (omega arith);
   first = omega arith;
   second = omega arith;
-  square = Rattle.numbers.proofs.Laws.sq-nonneg x;
-  squares = omega (arith, product-bound x x h h);
-  square′ = Rattle.numbers.proofs.Laws.sq-nonneg y;
-  squares′ = omega (arith, product-bound y y k k);
+  square-f = Rattle.numbers.proofs.Laws.sq-nonneg x;
+  squares-f = omega (arith, product-bound x x h h);
+  square-g = Rattle.numbers.proofs.Laws.sq-nonneg y;
+  squares-g = omega (arith, product-bound y y k k);
   product = omega (arith, product-bound x y h k);
 }
 fair-one false x y h k = record {
@@ -83,10 +80,10 @@ fair-one false x y h k = record {
   count = ≤ℤ-refl (pos 0);
   first = omega arith;
   second = omega arith;
-  square = ≤ℤ-refl (pos 0);
-  squares = omega arith;
-  square′ = ≤ℤ-refl (pos 0);
-  squares′ = omega arith;
+  square-f = ≤ℤ-refl (pos 0);
+  squares-f = omega arith;
+  square-g = ≤ℤ-refl (pos 0);
+  squares-g = omega arith;
   product = omega arith;
 }
 
@@ -146,40 +143,25 @@ module _ (x : Inputs) (hf : Levels (x .source .f)) (hg : Levels (x .source .g)) 
       ))
 
 -- ---- from the properties to the test
-not-below : {a b : ℤ} → b ≤ℤ a → ltZ a b ≡ false
-not-below {a} {b} h = off (ltZ a b) (λ t. <ℤ-irrefl (<ℤ-≤ℤ-trans (ltZ-yes t) h))
-
-size-below : (x n : ℤ) (M : ℕ) → pos 0 ≤ℤ n → natAbs x ≤ M * natAbs n → pos (natAbs x) ≤ℤ (pos M *ℤ n)
-size-below x (pos n) M h k = leℤ (pos (natAbs x)) (pos (M * n)) (omega arith)
-size-below x (negsuc n) M h k = absurd (h .le)
-
-self-below : (x n : ℤ) (M : ℕ) → pos 0 ≤ℤ n → natAbs x ≤ M * natAbs n → x ≤ℤ (pos M *ℤ n)
-self-below (pos x) (pos n) M h k = leℤ (pos x) (pos (M * n)) (omega arith)
-self-below (negsuc x) (pos n) M h k = leℤ (negsuc x) (pos (M * n)) (omega arith)
-self-below x (negsuc n) M h k = absurd (h .le)
-
-few : (n : ℤ) → pos 0 ≤ℤ n → natAbs n ≤ 65025 → n ≤ℤ pos 65025
-few (pos n) h k = leℤ (pos n) (pos 65025) (omega arith)
-few (negsuc n) h k = absurd (h .le)
-
-pub possible-of : (z : Sums) → Fair z → natAbs (z .n) ≤ 65025 → impossible z ≡ false
-unfolding impossible
-possible-of z f k =
-    rw (
-      not-below (few (z .n) (f .count) k),
-      not-below (f .count),
-      not-below (size-below (z .s) (z .n) 32768 (f .count) (f .first)),
-      not-below (size-below (z .t) (z .n) 32768 (f .count) (f .second)),
-      not-below (f .square),
-      not-below (self-below (z .a) (z .n) (2 ^ 30) (f .count) (f .squares)),
-      not-below (f .square′),
-      not-below (self-below (z .b) (z .n) (2 ^ 30) (f .count) (f .squares′)),
-      not-below (size-below (z .p) (z .n) (2 ^ 30) (f .count) (f .product)),
-      not-below (var-nonneg (z .n) (z .s) (z .t) (z .a) (z .b) (z .p) (f .form)),
-      not-below (sub-of-le (z .t *ℤ z .t) (z .n *ℤ z .b) (square-le-T (z .n) (z .s) (z .t) (z .a) (z .b) (z .p) (f .form))),
-      not-below (cauchy (z .n) (z .s) (z .t) (z .a) (z .b) (z .p) (f .count) (f .form)),
-    )
+fair-possible : (z : Sums) → Fair z → natAbs (z .n) ≤ 65025 → Possible z
+fair-possible z f k = record {
+  bounded = record {
+    whole = f .count;
+    few = k;
+    first = f .first;
+    second = f .second;
+    square-f-whole = f .square-f;
+    square-f = f .squares-f;
+    square-g-whole = f .square-g;
+    square-g = f .squares-g;
+    product = f .product;
+  };
+  spread-f = var-nonneg (z .n) (z .s) (z .t) (z .a) (z .b) (z .p) (f .form);
+  spread-g = sub-of-le (z .t *ℤ z .t) (z .n *ℤ z .b) (square-le-T (z .n) (z .s) (z .t) (z .a) (z .b) (z .p) (f .form));
+  schwarz = cauchy (z .n) (z .s) (z .t) (z .a) (z .b) (z .p) (f .count) (f .form);
+}
 
 -- no statistic answers 9 to the six direct sums
 pub sums-possible : (x : Inputs) → Levels (x .source .f) → Levels (x .source .g) → T (windowLegal (x .window)) → (i j : ℕ) → impossible (sixSums x i j) ≡ false
-sums-possible x hf hg t i j = possible-of (sixSums x i j) (sums-fair x hf hg i j) (count-bound x hf hg i j t)
+sums-possible x hf hg t i j =
+    possible-of (sixSums x i j) (fair-possible (sixSums x i j) (sums-fair x hf hg i j) (count-bound x hf hg i j t))

@@ -36,15 +36,18 @@ Vg z = z .n *ℤ z .b -ℤ z .t *ℤ z .t
 abbrev pub covariance : Sums → ℤ
 covariance z = z .n *ℤ z .p -ℤ z .s *ℤ z .t
 
--- 9: "N above 65,025 or negative; |S| or |T| above 32,768·N; A or B negative or above 2^30·N; |P| above 2^30·N; Vf or Vg negative; C² above Vf·Vg"
-unfoldable pub impossible : Sums → Bool
-impossible z =
+-- 9: "N above 65,025 or negative; |S| or |T| above 32,768·N; A or B negative or above 2^30·N; |P| above 2^30·N"
+abbrev pub unbounded : Sums → Bool
+unbounded z =
     ltZ (pos 65025) (z .n) || ltZ (z .n) (pos 0) ||
     ltZ (pos 32768 *ℤ z .n) (pos (natAbs (z .s))) || ltZ (pos 32768 *ℤ z .n) (pos (natAbs (z .t))) ||
     ltZ (z .a) (pos 0) || ltZ (pos (2 ^ 30) *ℤ z .n) (z .a) || ltZ (z .b) (pos 0) || ltZ (pos (2 ^ 30) *ℤ z .n) (z .b) ||
-    ltZ (pos (2 ^ 30) *ℤ z .n) (pos (natAbs (z .p))) ||
-    ltZ (Vf z) (pos 0) || ltZ (Vg z) (pos 0) ||
-    ltZ (Vf z *ℤ Vg z) (covariance z *ℤ covariance z)
+    ltZ (pos (2 ^ 30) *ℤ z .n) (pos (natAbs (z .p)))
+
+-- 9, whole: ".. Vf or Vg negative; C² above Vf·Vg"
+unfoldable pub impossible : Sums → Bool
+impossible z =
+    unbounded z || ltZ (Vf z) (pos 0) || ltZ (Vg z) (pos 0) || ltZ (Vf z *ℤ Vg z) (covariance z *ℤ covariance z)
 
 -- a statistic has one check, 9
 abbrev pub unless9 : {A : Type 0} → Sums → A → Outcome A

@@ -1,6 +1,6 @@
 -- `machine::bits` meets its contract, by the sign of a. Assumes nothing.
 use mathlib.Core.Path.{_≡_, sym, ap, _∙_}
-use Prim.Native.Nat.{ℕ, _-_, _%_, _^_, _<_}
+use Prim.Native.Nat.{ℕ, _-_, _%_, _^_}
 use native.Mathlib.Omega.{arith}
 use lib.IntN.{ℤ, negsuc, natAbs, _-ℤ_}
 use mir.Syntax.{w64}

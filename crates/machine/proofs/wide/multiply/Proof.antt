@@ -1,6 +1,6 @@
 -- `machine::wide::multiply` meets its contract: four products of two digits each. Assumes nothing.
 use borrow.Author.Needs.{needs}
-use Prim.Native.Nat.{ℕ, _+_, _*_, _/_, _%_, _<_, _≤_, _^_}
+use Prim.Native.Nat.{_/_, _%_, _<_}
 use native.Mathlib.Omega.{arith}
 use Rattle.machine.proofs.Digits.{base, digits, digits-fit, carry, product}
 use Rattle.machine.proofs.wide.multiply.Statement.{statement}
