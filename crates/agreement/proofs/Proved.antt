@@ -22,7 +22,7 @@ use Rattle.picture.proofs.Refusals.{InLimits, in-limits, Accepted, accepted-has
 use Rattle.picture.proofs.Planes.{plane-bound}
 use Rattle.table.specs.Table.{tableOf, buildCall, readCall}
 use Rattle.table.proofs.Reading.{build-fills, read-answers}
-use Rattle.rows.specs.Rows.{Session, Strip, strip, rowCall, rowResult, rowChecks}
+use Rattle.rows.specs.Rows.{RowOutcome, Strip, strip, rowCall, rowResult, rowChecks}
 use Rattle.rows.proofs.Steps.{Ready, Done, strip-done}
 use Rattle.statistics.specs.declared.Sums.{Sums}
 use Rattle.statistics.specs.SixSums.{sixSums, impossible, unless9}
@@ -76,7 +76,7 @@ module _ (x : Inputs) (ok : accepted x) (hf : Levels (x .source .f)) (hg : Level
           rowResult x (refusal (rowChecks x p (c .request) (s .work) (c .output))) p (c .request) (s .work) (c .output) ≡ rowResult x v (s .granted) (c .request) (s .work) (c .output)
       at p e v ev = rw (e, ev)
 
-      left : (v : Option ℕ) → Session → Progress
+      left : (v : Option ℕ) → RowOutcome → Progress
       left v r = record { position = r .position; work = r .work; granted = s .granted + countOf v c; joined = s .joined ++ rowsOf v r }
 
       room : refusal (rowChecks x (s .granted) (c .request) (s .work) (c .output)) ≡ none → s .granted + c .request ≤ x .source .size .rows

@@ -1,4 +1,14 @@
 -- "Words of demand 3": one claim about every list of row calls.
+--
+-- It is a claim about the code, because each contract gives the function's answer and areas by the very definition that stands here:
+--   rows::rows, rows::rows_at and rows::rows_plain    answer, position, work and output area of `rowCall`
+--   picture::direct_sum                               the answer of `directCall`
+--   table::build, table::read                         answer and area of `buildCall`; the answer of `readCall`
+--   statistics: mean, variance, deviation, voice      the answers of `meanCall`, `varianceCall`, `deviationCall`, `voiceCall`
+--   answer and coefficient                            and `coefficientCall`
+-- A list of calls of `rows` on one session leaves, call by call, what `next` says of `Progress`; the session's position and work area
+-- after one call are those before the next. The pictures are slices of i16, so `Levels` holds of their contents. The table's area is
+-- what `build` left in it, untouched since.
 -- Assumes nothing.
 use mathlib.Core.Path.{_≡_}
 use Prim.Native.Nat.{ℕ, zero, suc, _+_, _*_, _≤_, _<_}
@@ -14,7 +24,7 @@ use Rattle.picture.specs.Size.{cells}
 use Rattle.picture.specs.Conditions.{accepted}
 use Rattle.picture.specs.Direct.{directSum, directCall}
 use Rattle.table.specs.Table.{buildCall, readCall}
-use Rattle.rows.specs.Rows.{Session, rowCall, rowChecks}
+use Rattle.rows.specs.Rows.{RowOutcome, rowCall, rowChecks}
 use Rattle.statistics.specs.declared.Sums.{Sums}
 use Rattle.statistics.specs.SixSums.{sixSums}
 use Rattle.statistics.specs.Moments.{unlessEmpty, mean, variance, deviation, meanCall, varianceCall, deviationCall}
@@ -47,7 +57,7 @@ countOf none c = c .request
 countOf (some k) c = 0
 
 -- "Joined rows are the output areas of the granted calls, each as its call left it"
-unfoldable pub rowsOf : Option ℕ → Session → List ℤ
+unfoldable pub rowsOf : Option ℕ → RowOutcome → List ℤ
 rowsOf none r = r .output
 rowsOf (some k) r = []
 

@@ -10,14 +10,14 @@ use lib.Dec.{T, ltb, eqb, eqb→eq}
 use lib.ListN.{length}
 use lib.IntN.{ℤ, pos}
 use Rattle.numbers.proofs.Grids.{length-tabulate}
-use Rattle.picture.specs.Refusal.{Outcome, refused, answered, refusal}
+use Rattle.picture.specs.Refusal.{Outcome, refused, answered, refusal, numbersOf}
 use Rattle.picture.specs.declared.Size.{Size}
 use Rattle.picture.specs.Window.{Shape}
 use Rattle.picture.specs.Picture.{Inputs}
 use Rattle.picture.specs.Conditions.{inputChecks, check7, check8, accepted}
 use Rattle.numbers.proofs.Tests.{of-not}
 use Rattle.picture.proofs.Refusals.{pass-all, none-head, none-rest}
-use Rattle.rows.specs.Rows.{workValue, workAfter, outputRow, Strip, strip, Session, rowChecks, rowResult, rowCall}
+use Rattle.rows.specs.Rows.{workValue, workAfter, outputRow, Strip, strip, RowOutcome, rowChecks, rowResult, rowCall}
 
 -- "Only the number comes back; every lent buffer and the position keep their bytes."
 pub refused-keeps : (x : Inputs) (position request : ℕ) (work output : List ℤ) (k : ℕ) → refusal (rowChecks x position request work output) ≡ some k →
@@ -51,6 +51,11 @@ zero-keeps x position work output ok e =
         let e8' = none-rest 8 c8 last e8 in
         let l = eqb→eq (length output) (0 * x .source .size .columns) (of-not (eqb (length output) (0 * x .source .size .columns)) (none-head 8 (not (eqb (length output) (0 * x .source .size .columns))) [] e8')) in
         empty-list output (omega arith)
+
+-- "Checks run in number order, each where the call has that input": 8 for the work area and for the output area
+pub row-order : (x : Inputs) (position request : ℕ) (work output : List ℤ) → numbersOf (rowChecks x position request work output) ≡ 1 ∷ 2 ∷ 2 ∷ 3 ∷ 4 ∷ 5 ∷ 7 ∷ 8 ∷ 8 ∷ []
+unfolding numbersOf
+row-order x position request work output = refl
 
 -- "At position 0 the work area is not read."
 pub start-unread : (z : Size) (P : ℕ → ℕ → ℤ) (s : Shape) (work work' : List ℤ) → workAfter z P s 0 work ≡ workAfter z P s 0 work'

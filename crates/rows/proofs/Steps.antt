@@ -56,7 +56,7 @@ module _ (z : Size) (P : ℕ → ℕ → ℤ) where
   workRow s i = tabulate (z .columns) (workValue z P s i)
 
   module _ (lim : InLimits z) (small : (m n : ℕ) → natAbs (P m n) ≤ 2 ^ 30) where
-    column-fits : (a i n : ℕ) → natAbs (columnSum z P a i n) ≤ 2 ^ 38
+    pub column-fits : (a i n : ℕ) → natAbs (columnSum z P a i n) ≤ 2 ^ 38
     unfolding columnSum
     column-fits a i n =
         omega (

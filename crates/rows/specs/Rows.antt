@@ -67,7 +67,7 @@ strip z P s position (suc n) work =
     record { work = rest .work; output = outputRow z s next ++ rest .output }
 
 -- what a call of the session leaves: its answer, the position, the work area and the output area
-pub record Session : Type 0 where
+pub record RowOutcome : Type 0 where
   pub answer : Outcome ℕ
   pub position : ℕ
   pub work : List ℤ
@@ -79,11 +79,11 @@ rowChecks x position request work output =
     inputChecks x ++ (check7 (x .source .size) position request ∷ check8 (x .source .size .columns) (length work) ∷ check8 (request * x .source .size .columns) (length output) ∷ [])
 
 -- "It writes the sums of the next n rows, moves the position on by n and answers n"; refused, "every lent buffer and the position keep their bytes"
-unfoldable pub rowResult : Inputs → Option ℕ → (position request : ℕ) → (work output : List ℤ) → Session
+unfoldable pub rowResult : Inputs → Option ℕ → (position request : ℕ) → (work output : List ℤ) → RowOutcome
 rowResult x (some k) position request work output = record { answer = refused k; position = position; work = work; output = output }
 rowResult x none position request work output =
     let r = strip (x .source .size) (planeAt (x .source)) (shapeOf (x .window)) position request work in
     record { answer = answered request; position = position + request; work = r .work; output = r .output }
 
-unfoldable pub rowCall : Inputs → (position request : ℕ) → (work output : List ℤ) → Session
+unfoldable pub rowCall : Inputs → (position request : ℕ) → (work output : List ℤ) → RowOutcome
 rowCall x position request work output = rowResult x (refusal (rowChecks x position request work output)) position request work output
