@@ -1,7 +1,7 @@
 -- The shape of a legal window by its two numbers.
 -- Assumes nothing.
 use mathlib.Core.Path.{_≡_, refl, sym, _∙_, ap}
-use Prim.Native.Nat.{ℕ, zero, suc, _+_, _-_, _≤_}
+use Prim.Native.Nat.{ℕ, zero, suc, _+_, _-_, _≤_, min}
 use native.Mathlib.Omega.{arith}
 use mathlib.Core.Bool.{Bool, true, false, _&&_}
 use lib.Dec.{T, eqb, leb→le}
@@ -12,7 +12,7 @@ use mir.Val.{SFits, Fits, toZ, ofZ}
 use mir.ValLaws.{toZ-ofZ}
 use Rattle.numbers.proofs.Tests.{and-left, and-right}
 use Rattle.picture.specs.declared.Window.{Window}
-use Rattle.picture.specs.Window.{window, between, Shape, Slanted, rectangle, slanted, diamond, hexagon, rectangleLegal, diamondLegal, hexagonLegal, windowLegal, shapeOf, isRectangle, height, reach, width}
+use Rattle.picture.specs.Window.{window, between, Shape, Slanted, rectangle, slanted, diamond, hexagon, rectangleLegal, diamondLegal, hexagonLegal, windowLegal, shapeOf, isRectangle, height, reach, width, depth}
 use Rattle.picture.proofs.Legal.{to-127, hexagon-parts}
 
 -- a number from 0 to 127
@@ -144,6 +144,26 @@ module _ (w : Window) (t : T (windowLegal w)) where
       go : Shaped w → width (shapeOf w) - p ≡ reach (shapeOf w) p
       go (is-1 e s) = absurd (h e)
       go (is-2 e s) = rw s
+      go (is-3 e s) = rw s
+
+module _ (w : Window) (t : T (windowLegal w)) (q : ℕ) where
+  pub depth-of-rectangle : w .shape ≡ 1 → height (shapeOf w) ≡ depth (shapeOf w) q
+  unfolding height depth
+  depth-of-rectangle h = go (shaped w t)
+    where
+      go : Shaped w → height (shapeOf w) ≡ depth (shapeOf w) q
+      go (is-1 e s) = rw s
+      go (is-2 e s) = absurd (omega arith)
+      go (is-3 e s) = absurd (omega arith)
+
+  -- the others reach as far down as their width leaves, and no further than their height
+  pub depth-of-slanted : (w .shape ≡ 1 → ⊥) → min (height (shapeOf w)) (reach (shapeOf w) q) ≡ depth (shapeOf w) q
+  unfolding height reach depth
+  depth-of-slanted h = go (shaped w t)
+    where
+      go : Shaped w → min (height (shapeOf w)) (reach (shapeOf w) q) ≡ depth (shapeOf w) q
+      go (is-1 e s) = absurd (h e)
+      go (is-2 e s) = rw s (omega arith)
       go (is-3 e s) = rw s
 
 -- ---- a window's number as code casts it

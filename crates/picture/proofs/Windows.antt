@@ -94,3 +94,16 @@ small-window (suc (suc (suc (suc n)))) a b t = absurd t
 
 pub small : (w : Window) → T (windowLegal w) → Small (shapeOf w)
 small w t = small-window (w .shape) (w .first) (w .second) t
+
+pub height-small : (w : Window) → T (windowLegal w) → height (shapeOf w) ≤ 127
+height-small w t = small w t .low
+
+-- a column of a window goes no further down than its middle one
+depth-low : (s : Shape) (q : ℕ) → depth s q ≤ height s
+unfolding depth height
+depth-low (rectangle a b) q = omega arith
+depth-low (slanted (diamond r)) q = omega arith
+depth-low (slanted (hexagon k h)) q = omega arith
+
+pub depth-small : (w : Window) → T (windowLegal w) → (q : ℕ) → depth (shapeOf w) q ≤ 127
+depth-small w t q = omega (arith, depth-low (shapeOf w) q, height-small w t)

@@ -1,8 +1,8 @@
-// A legal window by its rows: how far it goes up and down, and how far to the sides at a distance from its middle row.
+// A legal window by its rows and by its columns: how far it goes up and down, and to the sides, at a distance from its middle.
 // With the checks, the only code that knows what a shape is. For callers that have checked the window: each requires that it is legal.
 ghost use mathlib.Core.Path.{_≡_};
 ghost use lib.Dec.{T};
-ghost use Rattle.picture.specs.Window.{windowLegal, shapeOf, isRectangle, height, reach, width};
+ghost use Rattle.picture.specs.Window.{windowLegal, shapeOf, isRectangle, height, reach, width, depth};
 use super::Window;
 
 // The window is a rectangle, and not one of the others.
@@ -59,4 +59,21 @@ pub fn reach(window: Window, distance: usize) -> usize
         return 0;
     }
     widest - distance
+}
+
+// The largest |p| in the columns at a distance from the middle one: document 01's d(q).
+pub fn depth(window: Window, distance: usize) -> usize
+    requires { ⌜ T (windowLegal window) ⌝ }
+    ensures { λ r. ⌜ r ≡ depth (shapeOf window) distance ⌝ }
+{
+    let tallest = height(window);
+    let shape = window.shape;
+    if shape == 1 {
+        return tallest;
+    }
+    let left = reach(window, distance);
+    if left < tallest {
+        return left;
+    }
+    tallest
 }

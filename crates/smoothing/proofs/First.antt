@@ -1,13 +1,24 @@
--- The search's cell passes the test and none before it does; where there is none, no cell passes.
+-- The search's cell passes the test and none before it does; where there is none, no cell passes. So it is with the first steady cell.
 -- Assumes nothing.
 use mathlib.Core.Path.{_≡_, refl, sym, _∙_, ap}
 use Prim.Native.Nat.{ℕ, zero, suc, _+_, _-_, _≤_, _<_}
 use native.Mathlib.Omega.{arith}
 use native.Mathlib.Decide.{decLt}
-use mathlib.Core.Bool.{Bool, true, false}
+use mathlib.Core.Bool.{Bool, true, false, not, _&&_}
 use mathlib.Core.Option.{Option, none, some}
+use mathlib.Core.List.{List, [], _∷_}
+use lib.IntN.{ℤ, pos}
+use Rattle.picture.specs.Refusal.{numbersOf}
 use Rattle.picture.specs.declared.Cell.{Cell}
-use Rattle.smoothing.specs.Steady.{findColumn, orElse, findCell}
+use Rattle.picture.specs.declared.Shift.{Shift}
+use Rattle.picture.specs.declared.Size.{Size}
+use Rattle.picture.specs.declared.Window.{Window}
+use Rattle.picture.specs.Picture.{Inputs}
+use Rattle.statistics.specs.declared.Sums.{Sums}
+use Rattle.statistics.specs.SixSums.{sixSums, Vf, noCell, isZero}
+use Rattle.statistics.specs.Moments.{mean, deviation}
+use Rattle.statistics.specs.Voice.{empty, steady, grainy, over32768, voice}
+use Rattle.smoothing.specs.Steady.{isSteady, findColumn, orElse, findCell, firstSteady, steadyChecks}
 
 -- the first passing column of those from j on
 pub data FoundColumn (test : ℕ → Bool) (j n : ℕ) : Option ℕ → Type 0 where
@@ -64,3 +75,23 @@ find-cell test columns i (suc n) = go (findColumn (test i) 0 columns) (find-colu
         before m k p q s (no u) =
             let e : m ≡ i = omega arith in
             rw e (h k (omega arith) (omega arith))
+
+-- a cell is steady where it has a count and Vf = 0: "a cell that answers Empty or Grainy is passed over"
+pub steady-when : (z : Sums) → isSteady (voice z) ≡ (not (noCell z) && isZero (Vf z))
+unfolding voice
+steady-when z = go (noCell z) (isZero (Vf z))
+  where
+    go : (a b : Bool) → isSteady (elim a [ true ↦ empty | false ↦ elim b [ true ↦ steady (over32768 (mean z)) | false ↦ grainy (over32768 (mean z)) (over32768 (pos (deviation z))) ] ]) ≡ (not a && b)
+    go true b = refl
+    go false true = refl
+    go false false = refl
+
+-- "the first cell in row order whose voice answer is Steady, or None"
+pub steady-found : (x : Inputs) → FoundCell (λ i j. isSteady (voice (sixSums x i j))) (x .source .size .columns) 0 (x .source .size .rows) (firstSteady x)
+unfolding firstSteady
+steady-found x = find-cell (λ i j. isSteady (voice (sixSums x i j))) (x .source .size .columns) 0 (x .source .size .rows)
+
+-- "Checks run in number order, each where the call has that input"
+pub steady-order : (z : Size) (f g : List ℤ) (w : Window) (d : Shift) → numbersOf (steadyChecks z f g w d) ≡ 1 ∷ 2 ∷ 2 ∷ 3 ∷ 4 ∷ []
+unfolding numbersOf
+steady-order z f g w d = refl

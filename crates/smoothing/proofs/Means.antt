@@ -5,6 +5,7 @@ use Prim.Native.Nat.{ℕ, zero, suc, _+_, _-_, _*_, _/_, _%_, _^_, _≤_, _<_}
 use native.Mathlib.Omega.{arith}
 use mathlib.Core.Bool.{Bool, true, false, _&&_}
 use mathlib.Core.List.{List, [], _∷_}
+use mathlib.Core.Option.{none, some}
 use lib.Dec.{T, leb, ltb, lt→ltb, le→leb}
 use lib.ListN.{length, getD}
 use lib.IntN.{ℤ, pos, negsuc, natAbs, _+ℤ_, _*ℤ_, *ℤ-comm}
@@ -19,6 +20,8 @@ use Rattle.numbers.proofs.Tests.{and-both}
 use Rattle.numbers.proofs.SumOrders.{sum-le, sum-scale, sum-one, sum-nonneg, pick-le, pick-nonneg, pick-scale}
 use Rattle.numbers.proofs.Grids.{getD-grid, length-rows}
 use Rattle.numbers.proofs.Rounds.{nearest-law, nearest-within}
+use Rattle.picture.specs.Refusal.{refused, answered, refusal, numbersOf}
+use Rattle.picture.proofs.Refusals.{filling-none, filling-some}
 use Rattle.picture.specs.declared.Size.{Size}
 use Rattle.picture.specs.Size.{cells, rowGap, columnGap, inRange, inside}
 use Rattle.picture.specs.declared.Window.{Window}
@@ -28,7 +31,7 @@ use Rattle.picture.specs.Direct.{windowSum, directSum}
 use Rattle.statistics.specs.declared.Sums.{Sums}
 use Rattle.statistics.specs.SixSums.{sixSums, onPlane, count}
 use Rattle.statistics.specs.Moments.{mean}
-use Rattle.smoothing.specs.Smoothing.{alone, smoothed}
+use Rattle.smoothing.specs.Smoothing.{alone, smoothed, smoothChecks, smoothCall}
 
 module _ (z : Size) (f : List ℤ) (w : Window) where
   abbrev x : Inputs
@@ -128,3 +131,19 @@ smoothed-at z f w i j hi hj = getD-grid (z .rows) (z .columns) i j (λ i j. mean
 pub length-smoothed : (z : Size) (f : List ℤ) (w : Window) → length (smoothed z f w) ≡ cells z
 unfolding smoothed
 length-smoothed z f w = length-rows 0 (z .rows) (z .columns) (λ i j. mean (sixSums (alone z f w) i j))
+
+-- a call that is taken writes the means; one that is refused keeps the output
+pub smooth-writes : (z : Size) (f : List ℤ) (w : Window) (output : List ℤ) → refusal (smoothChecks z f w output) ≡ none →
+    smoothCall z f w output ≡ record { answer = answered tt; area = smoothed z f w }
+unfolding smoothCall
+smooth-writes z f w output e = filling-none (refusal (smoothChecks z f w output)) output (smoothed z f w) e
+
+pub smooth-keeps : (z : Size) (f : List ℤ) (w : Window) (output : List ℤ) (n : ℕ) → refusal (smoothChecks z f w output) ≡ some n →
+    smoothCall z f w output ≡ record { answer = refused n; area = output }
+unfolding smoothCall
+smooth-keeps z f w output n e = filling-some (refusal (smoothChecks z f w output)) output (smoothed z f w) n e
+
+-- "Checks run in number order, each where the call has that input"
+pub smooth-order : (z : Size) (f : List ℤ) (w : Window) (output : List ℤ) → numbersOf (smoothChecks z f w output) ≡ 1 ∷ 2 ∷ 3 ∷ 8 ∷ []
+unfolding numbersOf
+smooth-order z f w output = refl

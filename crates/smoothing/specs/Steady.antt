@@ -2,7 +2,7 @@
 -- Assumes nothing.
 use Prim.Native.Nat.{ℕ, zero, suc, _/_, _%_}
 use mathlib.Core.Bool.{Bool, true, false}
-use mathlib.Core.List.{List, [], _∷_}
+use mathlib.Core.List.{List, [], _∷_, _++_}
 use mathlib.Core.Option.{Option, none, some}
 use lib.IntN.{ℤ}
 use Rattle.picture.specs.Refusal.{Outcome, Check, refusal, outcome}
@@ -12,7 +12,7 @@ use Rattle.picture.specs.declared.Cell.{Cell}
 use Rattle.picture.specs.Size.{cell}
 use Rattle.picture.specs.declared.Shift.{Shift}
 use Rattle.picture.specs.Picture.{Inputs, inputs}
-use Rattle.picture.specs.Conditions.{check1, check2, check3, check4}
+use Rattle.picture.specs.Conditions.{pictureChecks, check3, check4}
 use Rattle.statistics.specs.SixSums.{sixSums}
 use Rattle.statistics.specs.Voice.{Voice, empty, steady, grainy, voice}
 
@@ -40,6 +40,9 @@ unfoldable pub firstSteady : Inputs → Option Cell
 firstSteady x = findCell (λ i j. isSteady (voice (sixSums x i j))) (x .source .size .columns) 0 (x .source .size .rows)
 
 -- 1 to 4: the inputs' checks but the plane's
+abbrev pub steadyChecks : Size → (f g : List ℤ) → Window → Shift → List Check
+steadyChecks z f g w d = pictureChecks z f g ++ (check3 w ∷ check4 d ∷ [])
+
+-- the inputs have plane 0 for want of one; `sixSums` takes its own
 unfoldable pub steadyCall : Size → (f g : List ℤ) → Window → Shift → Outcome (Option Cell)
-steadyCall z f g w d =
-    outcome (refusal (check1 z ∷ check2 z f ∷ check2 z g ∷ check3 w ∷ check4 d ∷ [])) (firstSteady (inputs z f g w d 0))
+steadyCall z f g w d = outcome (refusal (steadyChecks z f g w d)) (firstSteady (inputs z f g w d 0))

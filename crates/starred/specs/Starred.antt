@@ -13,7 +13,7 @@ use Rattle.picture.specs.Size.{size}
 use Rattle.picture.specs.declared.Shift.{Shift}
 use Rattle.picture.specs.Picture.{shift, noShift, Inputs, inputs}
 use Rattle.picture.specs.Direct.{directCall}
-use Rattle.rows.specs.Rows.{Session, rowCall}
+use Rattle.rows.specs.Rows.{RowOutcome, rowCall}
 use Rattle.statistics.specs.declared.Sums.{Sums}
 use Rattle.statistics.specs.SixSums.{sixSums, onPlane, Vf}
 use Rattle.statistics.specs.Moments.{meanCall, varianceCall, deviationCall}
@@ -59,23 +59,23 @@ abbrev pub pairWith : List ℤ → Sums
 pairWith g = sixSums (line f123 g 3) 0 1
 
 -- the row call on K, rectangle 1, 1, plane 1
-abbrev pub rowsOfK : (position request : ℕ) → (work output : List ℤ) → Session
+abbrev pub rowsOfK : (position request : ℕ) → (work output : List ℤ) → RowOutcome
 rowsOfK = rowCall (inputs three K K rect11 noShift 1)
 
 abbrev pub zeros : ℕ → List ℤ
 zeros n = lib.ListN.replicate n (pos 0)
 
 -- requests 0, 2, 1
-abbrev pub after0 : Session
+abbrev pub after0 : RowOutcome
 after0 = rowsOfK 0 0 (zeros 3) []
 
-abbrev pub after2 : Session
+abbrev pub after2 : RowOutcome
 after2 = rowsOfK (after0 .position) 2 (after0 .work) (zeros 6)
 
-abbrev pub after1 : Session
+abbrev pub after1 : RowOutcome
 after1 = rowsOfK (after2 .position) 1 (after2 .work) (zeros 3)
 
-abbrev pub after3 : Session
+abbrev pub after3 : RowOutcome
 after3 = rowsOfK 0 3 (zeros 3) (zeros 9)
 
 -- a statement for each number that the paper gives
