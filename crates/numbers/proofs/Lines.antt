@@ -2,7 +2,7 @@
 -- Assumes nothing.
 use mathlib.Core.Path.{_≡_, sym, _∙_, ap}
 use mathlib.Core.List.{List}
-use Prim.Native.Nat.{ℕ, zero, suc, _+_, _-_, _*_, _/_, _%_, _≤_, _<_}
+use Prim.Native.Nat.{ℕ, zero, suc, _+_, _*_, _/_, _%_, _≤_, _<_}
 use native.Mathlib.Nat.{suc-mul, mul-le-mul-right, div-add-mod', div-lt-iff-lt-mul, mod-lt}
 use native.Mathlib.Numerals.{add-one}
 use native.Mathlib.Omega.{arith}
@@ -10,10 +10,9 @@ use native.Mathlib.Decide.{ℕ-discrete}
 use lib.IntN.{ℤ, pos}
 use lib.ListN.{length}
 use lib.Seq.{ext-getD}
-use borrow.Rule.Slice.PartMut.{putMid}
 use Rattle.numbers.specs.Grid.{tabulate, grid}
-use Rattle.numbers.proofs.Grids.{length-tabulate, getD-tabulate, length-rows, getD-grid}
-use Rattle.numbers.proofs.Writes.{at, part-before, part-within}
+use Rattle.numbers.proofs.Grids.{length-tabulate, length-rows, getD-grid}
+use Rattle.numbers.proofs.Writes.{at}
 
 -- a row that was written has its length
 pub tabulated-length : (l : List ℤ) (n : ℕ) (f : ℕ → ℤ) → l ≡ tabulate n f → length l ≡ n
@@ -33,23 +32,14 @@ pub record Lines (f : ℕ → ℕ → ℤ) (c : ℕ) (l : List ℤ) (n : ℕ) : 
 pub lines-none : (f : ℕ → ℕ → ℤ) (c : ℕ) (l : List ℤ) → Lines f c l 0
 lines-none f c l = record { each = λ y x h k. absurd (omega arith) }
 
--- the next row is put in, from lo to hi
-module _ (f : ℕ → ℕ → ℤ) (c : ℕ) (l part : List ℤ) (n lo hi : ℕ) (u : Lines f c l n) (start : lo ≡ n * c) (end : hi ≡ lo + c) (room : hi ≤ length l) (e : part ≡ tabulate c (f n)) where
-  same-length : length part ≡ hi - lo
-  same-length = tabulated-length part c (f n) e ∙ omega arith
+-- the next row is written in place, from lo on
+module _ (f : ℕ → ℕ → ℤ) (c : ℕ) (l m : List ℤ) (n lo : ℕ) (u : Lines f c l n) (start : lo ≡ n * c) (kept : (k : ℕ) → k < lo → at m k ≡ at l k) (row : (x : ℕ) → x < c → at m (lo + x) ≡ f n x) where
+  next-by : (y x : ℕ) → y < n + 1 → x < c → Dec (y ≡ n) → at m (y * c + x) ≡ f y x
+  next-by y x h k (yes p) = rw (p, ← start) (row x k)
+  next-by y x h k (no p) = kept (y * c + x) (omega (arith, line-end y n c (omega arith))) ∙ u .each y x (omega arith) k
 
-  more-by : (y x : ℕ) → y < n + 1 → x < c → Dec (y ≡ n) → at (putMid lo (hi - lo) l part) (y * c + x) ≡ f y x
-  more-by y x h k (yes p) =
-      let q : y * c + x ≡ lo + x = ap (λ (m : ℕ). m * c + x) p ∙ ap (λ (m : ℕ). m + x) (sym start) in
-      let r : lo + x - lo ≡ x = omega arith in
-      rw q (part-within lo hi l part (omega arith) room same-length (lo + x) (omega arith) (omega arith)
-      ∙ rw r (ap (λ (m : List ℤ). at m x) e ∙ getD-tabulate c x (f n) (pos 0) k ∙ ap (λ (m : ℕ). f m x) (sym p)))
-  more-by y x h k (no p) =
-      part-before lo hi l part (omega arith) room same-length (y * c + x) (omega (arith, line-end y n c (omega arith)))
-      ∙ u .each y x (omega arith) k
-
-  pub lines-more : Lines f c (putMid lo (hi - lo) l part) (n + 1)
-  lines-more = record { each = λ y x h k. more-by y x h k (ℕ-discrete y n) }
+  pub lines-next : Lines f c m (n + 1)
+  lines-next = record { each = λ y x h k. next-by y x h k (ℕ-discrete y n) }
 
 -- all rows are written
 pub lines-all : (f : ℕ → ℕ → ℤ) (c : ℕ) (l : List ℤ) (n : ℕ) → Lines f c l n → length l ≡ n * c → l ≡ grid n c f

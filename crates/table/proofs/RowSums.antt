@@ -1,25 +1,49 @@
 -- A table's rows as code writes them: each row's running sum, added to the row above.
 -- Assumes nothing.
-use mathlib.Core.Path.{_≡_, sym, _∙_, ap}
+use mathlib.Core.Path.{_≡_, refl, sym, _∙_, ap}
 use mathlib.Core.List.{List}
-use Prim.Native.Nat.{ℕ, suc, _+_, _*_, _^_, _≤_, _<_}
-use native.Mathlib.Nat.{mul-le-mul, zero-add}
-use native.Mathlib.Numerals.{add-one}
+use Prim.Native.Nat.{ℕ, zero, suc, _+_, _-_, _*_, _^_, _≤_, _<_}
+use native.Mathlib.Nat.{mul-le-mul, zero-add, zero-mul, suc-mul}
 use native.Mathlib.Omega.{arith}
-use lib.IntN.{ℤ, pos, natAbs, _+ℤ_}
+use native.Mathlib.Decide.{ℕ-discrete}
+use lib.IntN.{ℤ, pos, natAbs, _+ℤ_, +ℤ-idl}
+use lib.ListN.{length, set, length-set}
+use lib.Seq.{getD-set-same, getD-set-other}
 use Rattle.numbers.specs.Grid.{tabulate}
 use Rattle.numbers.specs.Sum.{sumTo}
 use Rattle.numbers.specs.Wrap.{wrap}
-use Rattle.numbers.proofs.Grids.{getD-tabulate, tabulate-cong}
+use Rattle.numbers.proofs.Grids.{getD-tabulate}
+use Rattle.numbers.proofs.Lines.{Lines, lines-none, lines-next, tabulated-length}
 use Rattle.numbers.proofs.Sums.{sum-suc, sum-cong, sum-bound}
 use Rattle.numbers.proofs.Wraps.{wrap-add-right, wrap-small}
 use Rattle.numbers.proofs.Writes.{at}
 use Rattle.table.specs.Table.{tableAt}
-use Rattle.table.specs.Inner.{nextRow}
+use Rattle.table.specs.Inner.{nextNumber, FirstRow, NextRow}
 
 -- the number at column j of a row that is written
-pub next-number : (above row : List ℤ) (j : ℕ) (x s v : ℤ) → x ≡ at above j → s ≡ wrap (sumTo (suc j) (at row)) → v ≡ wrap (x +ℤ s) → v ≡ nextRow above row j
-next-number above row j x s v ex es ev = rw (ev, ex, es) (wrap-add-right (at above j) (sumTo (suc j) (at row)))
+pub next-number : (row : List ℤ) (j : ℕ) (x y s v : ℤ) → x ≡ y → s ≡ wrap (sumTo (suc j) (at row)) → v ≡ wrap (x +ℤ s) → v ≡ nextNumber y row j
+next-number row j x y s v ex es ev = rw (ev, ex, es) (wrap-add-right y (sumTo (suc j) (at row)))
+
+-- ---- a loop that writes the row at `start`: n of its numbers are written, and all before it is as it was
+pub record Written (row : List ℤ) (start : ℕ) (old now : List ℤ) (n : ℕ) : Type 0 where
+  pub size : length now ≡ length old
+  pub kept : (k : ℕ) → k < start → at now k ≡ at old k
+  pub done : (j : ℕ) → j < n → at now (start + j) ≡ nextNumber (at old (start - length row + j)) row j
+
+pub written-none : (row : List ℤ) (start : ℕ) (old : List ℤ) → Written row start old old 0
+written-none row start old = record { size = refl; kept = λ k h. refl; done = λ j h. absurd (omega arith) }
+
+module _ {row old now : List ℤ} {start n : ℕ} (w : Written row start old now n) (v : ℤ) (room : start + n < length old) (e : v ≡ nextNumber (at old (start - length row + n)) row n) where
+  done-by : (j : ℕ) → j < n + 1 → Dec (j ≡ n) → at (set now (start + n) v) (start + j) ≡ nextNumber (at old (start - length row + j)) row j
+  done-by j h (yes p) = rw p (getD-set-same now (start + n) v (pos 0) (omega (arith, w .size)) ∙ e)
+  done-by j h (no p) = getD-set-other now (start + n) (start + j) v (pos 0) (λ q. p (omega arith)) ∙ w .done j (omega arith)
+
+  pub written-more : Written row start old (set now (start + n) v) (n + 1)
+  written-more = record {
+    size = length-set now (start + n) v ∙ w .size;
+    kept = λ k h. getD-set-other now (start + n) k v (pos 0) (λ p. omega arith) ∙ w .kept k h;
+    done = λ j h. done-by j h (ℕ-discrete j n);
+  }
 
 -- what stands above row i at column j: T of the row above, and 0 above the first
 abbrev pub aboveRow : (ℕ → ℕ → ℤ) → (i j : ℕ) → ℤ
@@ -35,28 +59,40 @@ module _ (P : ℕ → ℕ → ℤ) (small : (m n : ℕ) → natAbs (P m n) ≤ 2
       let few : suc i * suc j ≤ 256 * 1024 = mul-le-mul {n₁ = suc i} {m₁ = suc j} {n₂ = 256} {m₂ = 1024} (omega arith) (omega arith) in
       omega (arith, sum-bound (suc i) (suc j * 2 ^ 30) r one)
 
-  -- the next row is T's
-  pub next-table : (above row : List ℤ) → at above j ≡ aboveRow P i j → ((q : ℕ) → q < suc j → at row q ≡ P i q) → nextRow above row j ≡ tableAt P i j
-  next-table above row ea er =
-      ap wrap (rw (ea, sum-cong (suc j) (at row) (P i) er) (unfold tableAt in sym (sum-suc i (λ p. sumTo (suc j) (λ q. P p q)))))
+  -- the next number is T's
+  pub next-table : (x : ℤ) (row : List ℤ) → x ≡ aboveRow P i j → ((q : ℕ) → q < suc j → at row q ≡ P i q) → nextNumber x row j ≡ tableAt P i j
+  next-table x row ex er =
+      ap wrap (rw (ex, sum-cong (suc j) (at row) (P i) er) (unfold tableAt in sym (sum-suc i (λ p. sumTo (suc j) (λ q. P p q)))))
       ∙ wrap-small (tableAt P i j) table-fits
 
--- ---- rows as lists
-pub above-none : (P : ℕ → ℕ → ℤ) (n columns : ℕ) (l : List ℤ) → n ≡ columns → l ≡ tabulate n (λ k. pos 0) → l ≡ tabulate columns (aboveRow P 0)
+-- above the first row stands 0, and above a later one T
+above-none : (P : ℕ → ℕ → ℤ) (j : ℕ) → pos 0 ≡ aboveRow P 0 j
 unfolding sumTo
-above-none P n columns l e h = h ∙ ap (λ (m : ℕ). tabulate m (λ k. pos 0)) e
+above-none P j = refl
 
-pub above-next : (P : ℕ → ℕ → ℤ) (i columns : ℕ) → tabulate columns (tableAt P i) ≡ tabulate columns (aboveRow P (i + 1))
+above-next : (P : ℕ → ℕ → ℤ) (i j : ℕ) → tableAt P i j ≡ aboveRow P (suc i) j
 unfolding tableAt
-above-next P i columns = rw (add-one i)
+above-next P i j = refl
 
--- row i of the table, from the row above it and the plane's row
-pub table-row : (P : ℕ → ℕ → ℤ) → ((m n : ℕ) → natAbs (P m n) ≤ 2 ^ 30) → (i columns n : ℕ) → i < 256 → columns ≤ 1024 → (above row l : List ℤ)
-    → above ≡ tabulate columns (aboveRow P i) → row ≡ tabulate columns (λ k. P i (0 + k)) → n ≡ columns → l ≡ tabulate n (nextRow above row)
-    → l ≡ tabulate columns (tableAt P i)
-table-row P small i columns n hi hc above row l ea er en el =
-    el ∙ ap (λ (m : ℕ). tabulate m (nextRow above row)) en
-    ∙ tabulate-cong columns (nextRow above row) (tableAt P i)
-    (λ j h. next-table P small i j hi (omega arith) above row
-    (ap (λ (m : List ℤ). at m j) ea ∙ getD-tabulate columns j (aboveRow P i) (pos 0) h)
-    (λ q k. ap (λ (m : List ℤ). at m q) er ∙ getD-tabulate columns q (λ x. P i (0 + x)) (pos 0) (omega arith) ∙ ap (P i) (zero-add q)))
+-- ---- rows of the table, from the plane's rows
+module _ (P : ℕ → ℕ → ℤ) (small : (m n : ℕ) → natAbs (P m n) ≤ 2 ^ 30) (c : ℕ) (few : c ≤ 1024) (row old new : List ℤ) where
+  row-at : (i q : ℕ) → row ≡ tabulate c (λ k. P i (0 + k)) → q < c → at row q ≡ P i q
+  row-at i q e h = ap (λ (m : List ℤ). at m q) e ∙ getD-tabulate c q (λ x. P i (0 + x)) (pos 0) h ∙ ap (P i) (zero-add q)
+
+  pub first-line : row ≡ tabulate c (λ k. P 0 (0 + k)) → FirstRow row old new → Lines (tableAt P) c new 1
+  first-line e w =
+      lines-next (tableAt P) c old new 0 0 (lines-none _ _ _) (sym (zero-mul c)) (λ k h. absurd (omega arith))
+      (λ x h. ap (at new) (zero-add x) ∙ w .written x (omega (arith, tabulated-length _ _ _ e)) ∙ ap wrap (sym (+ℤ-idl _))
+      ∙ next-table P small 0 x (omega arith) (omega arith) (pos 0) row (above-none P x) (λ q k. row-at 0 q e (omega arith)))
+
+  pub next-line : (i start : ℕ) → 1 ≤ i → i < 256 → start ≡ i * c → row ≡ tabulate c (λ k. P i (0 + k)) → Lines (tableAt P) c old i → NextRow row start old new
+      → Lines (tableAt P) c new (i + 1)
+  next-line zero start hi hr es e u w = absurd (omega arith)
+  next-line (suc m) start hi hr es e u w =
+      lines-next (tableAt P) c old new (suc m) start u es (w .kept)
+      (λ x h. w .written x (omega (arith, tabulated-length _ _ _ e))
+      ∙ next-table P small (suc m) x hr (omega arith) (at old (start - length row + x)) row
+      (ap (at old) (place x) ∙ u .each m x (omega arith) h ∙ above-next P m x) (λ q k. row-at (suc m) q e (omega arith)))
+    where
+      place : (x : ℕ) → start - length row + x ≡ m * c + x
+      place x = omega (arith, es, suc-mul m c, tabulated-length _ _ _ e)

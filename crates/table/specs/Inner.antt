@@ -2,7 +2,7 @@
 -- Assumes nothing.
 use mathlib.Core.Path.{_≡_}
 use mathlib.Core.List.{List}
-use Prim.Native.Nat.{ℕ, suc, _<_}
+use Prim.Native.Nat.{ℕ, suc, _+_, _-_, _≤_, _<_}
 use lib.Dec.{T}
 use lib.ListN.{length, getD}
 use lib.IntN.{ℤ, pos, _+ℤ_}
@@ -22,9 +22,25 @@ pub record Buildable (z : Size) (f g t : List ℤ) : Type 0 where
   pub levels-g : Levels g
   pub full : length t ≡ cells z
 
--- a row of the table, from the row above it and the plane's row: the number above, and the row's sum up to it
-abbrev pub nextRow : (above row : List ℤ) → ℕ → ℤ
-nextRow above row j = wrap (getD above j (pos 0) +ℤ sumTo (suc j) (λ q. getD row q (pos 0)))
+-- a number of the table: the number above, and the row's sum up to it
+abbrev pub nextNumber : (above : ℤ) (row : List ℤ) → ℕ → ℤ
+nextNumber above row j = wrap (above +ℤ sumTo (suc j) (λ q. getD row q (pos 0)))
+
+-- there is a row above the one at `start`, and room for it
+pub record RowRoom (row : List ℤ) (start : ℕ) (t : List ℤ) : Type 0 where
+  pub above : length row ≤ start
+  pub room : start + length row ≤ length t
+
+-- a table with the row at `start` written, and all before it as it was
+pub record NextRow (row : List ℤ) (start : ℕ) (old new : List ℤ) : Type 0 where
+  pub size : length new ≡ length old
+  pub kept : (k : ℕ) → k < start → getD new k (pos 0) ≡ getD old k (pos 0)
+  pub written : (j : ℕ) → j < length row → getD new (start + j) (pos 0) ≡ nextNumber (getD old (start - length row + j) (pos 0)) row j
+
+-- a table with its first row written
+pub record FirstRow (row old new : List ℤ) : Type 0 where
+  pub size : length new ≡ length old
+  pub written : (j : ℕ) → j < length row → getD new j (pos 0) ≡ wrap (sumTo (suc j) (λ q. getD row q (pos 0)))
 
 -- ---- reading
 -- a table of a legal size: 1 and 8

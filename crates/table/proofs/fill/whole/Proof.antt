@@ -12,22 +12,16 @@ array-borrow-prefix-row c = in-limits (c .args .size) (c .pre .legal) .few-colum
 slice-aggregate-table-rows : tie.Need-slice-aggregate-table-rows
 slice-aggregate-table-rows c = sym (length-take-le _ _ (array-borrow-prefix-row (c .before)))
 
-array-borrow-prefix-above : tie.Need-array-borrow-prefix-above
-array-borrow-prefix-above c = array-borrow-prefix-row (c .before)
-
-slice-aggregate-table-rows-2 : tie.Need-slice-aggregate-table-rows-2
-slice-aggregate-table-rows-2 c = sym (length-take-le _ _ (array-borrow-prefix-row (c .before .before)))
-
 table-rows-requires : tie.Need-table-rows-requires
 table-rows-requires c κs =
-    let s = c .before .before .before in
-    (s .pre, length-take-le _ _ (array-borrow-prefix-row s), length-take-le _ _ (array-borrow-prefix-row s))
+    let s = c .before .before in
+    (s .pre, length-take-le _ _ (array-borrow-prefix-row s))
 
 same-length : tie.Need-same-length
 same-length c = search needs
 
 returns : tie.Need-returns
-returns c = c .before .before .before .table-rows .ensures
+returns c = c .before .before .table-rows .ensures
 
 pub whole-spec : {M : Type 1} → statement M
 whole-spec =
@@ -35,8 +29,6 @@ whole-spec =
     (tie.spec
     array-borrow-prefix-row
     slice-aggregate-table-rows
-    array-borrow-prefix-above
-    slice-aggregate-table-rows-2
     table-rows-requires
     same-length
     returns)
