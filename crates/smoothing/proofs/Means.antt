@@ -23,9 +23,9 @@ use Rattle.numbers.proofs.Rounds.{nearest-law, nearest-within}
 use Rattle.picture.specs.Refusal.{refused, answered, refusal, numbersOf}
 use Rattle.picture.proofs.Refusals.{filling-none, filling-some}
 use Rattle.picture.specs.declared.Size.{Size}
-use Rattle.picture.specs.Size.{cells, rowGap, columnGap, inRange, inside}
+use Rattle.picture.specs.Size.{size, sizeLegal, cells, rowGap, columnGap, inRange, inside}
 use Rattle.picture.specs.declared.Window.{Window}
-use Rattle.picture.specs.Window.{Shape, shapeOf, height, reach, holds}
+use Rattle.picture.specs.Window.{window, rectangleLegal, windowLegal, Shape, shapeOf, height, reach, holds}
 use Rattle.picture.specs.Picture.{Levels, Inputs, counts, planeValue, planeAt, levelOf}
 use Rattle.picture.specs.Direct.{windowSum, directSum}
 use Rattle.statistics.specs.declared.Sums.{Sums}
@@ -147,3 +147,9 @@ smooth-keeps z f w output n e = filling-some (refusal (smoothChecks z f w output
 pub smooth-order : (z : Size) (f : List ℤ) (w : Window) (output : List ℤ) → numbersOf (smoothChecks z f w output) ≡ 1 ∷ 2 ∷ 3 ∷ 8 ∷ []
 unfolding numbersOf
 smooth-order z f w output = refl
+
+-- "a wrong length of it is 8": no room for the mean of a picture of one cell, and room for two
+pub other-length :
+    (refusal (smoothChecks (size 1 1) (pos 7 ∷ []) (window 1 (pos 0) (pos 0)) []) ≡ some 8) × (refusal (smoothChecks (size 1 1) (pos 7 ∷ []) (window 1 (pos 0) (pos 0)) (pos 0 ∷ pos 0 ∷ [])) ≡ some 8)
+unfolding refusal sizeLegal windowLegal rectangleLegal
+other-length = (refl, refl)
