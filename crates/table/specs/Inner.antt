@@ -22,25 +22,29 @@ pub record Buildable (z : Size) (f g t : List ℤ) : Type 0 where
   pub levels-g : Levels g
   pub full : length t ≡ cells z
 
+-- number q of the row that starts at `start`
+abbrev pub rowFrom : List ℤ → (start : ℕ) → ℕ → ℤ
+rowFrom t start q = getD t (start + q) (pos 0)
+
 -- a number of the table: the number above, and the row's sum up to it
-abbrev pub nextNumber : (above : ℤ) (row : List ℤ) → ℕ → ℤ
-nextNumber above row j = wrap (above +ℤ sumTo (suc j) (λ q. getD row q (pos 0)))
+abbrev pub nextNumber : (above : ℤ) (row : ℕ → ℤ) → ℕ → ℤ
+nextNumber above row j = wrap (above +ℤ sumTo (suc j) row)
 
 -- there is a row above the one at `start`, and room for it
-pub record RowRoom (row : List ℤ) (start : ℕ) (t : List ℤ) : Type 0 where
-  pub above : length row ≤ start
-  pub room : start + length row ≤ length t
+pub record RowRoom (columns start : ℕ) (t : List ℤ) : Type 0 where
+  pub above : columns ≤ start
+  pub room : start + columns ≤ length t
 
--- a table with the row at `start` written, and all before it as it was
-pub record NextRow (row : List ℤ) (start : ℕ) (old new : List ℤ) : Type 0 where
+-- the row at `start` was the plane's and is the table's, and all before it is as it was
+pub record NextRow (columns start : ℕ) (old new : List ℤ) : Type 0 where
   pub size : length new ≡ length old
   pub kept : (k : ℕ) → k < start → getD new k (pos 0) ≡ getD old k (pos 0)
-  pub written : (j : ℕ) → j < length row → getD new (start + j) (pos 0) ≡ nextNumber (getD old (start - length row + j) (pos 0)) row j
+  pub written : (j : ℕ) → j < columns → getD new (start + j) (pos 0) ≡ nextNumber (getD old (start - columns + j) (pos 0)) (rowFrom old start) j
 
--- a table with its first row written
-pub record FirstRow (row old new : List ℤ) : Type 0 where
+-- the first row was the plane's and is the table's
+pub record FirstRow (columns : ℕ) (old new : List ℤ) : Type 0 where
   pub size : length new ≡ length old
-  pub written : (j : ℕ) → j < length row → getD new j (pos 0) ≡ wrap (sumTo (suc j) (λ q. getD row q (pos 0)))
+  pub written : (j : ℕ) → j < columns → getD new j (pos 0) ≡ wrap (sumTo (suc j) (λ q. getD old q (pos 0)))
 
 -- ---- reading
 -- a table of a legal size: 1 and 8

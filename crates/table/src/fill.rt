@@ -1,4 +1,4 @@
-// Building: running sums along the rows, each added to the row above, in one pass over the picture.
+// Building: the plane's row is written where the table's is to stand, and summed there; one pass over the picture.
 // For callers that have checked their inputs.
 ghost use mathlib.Core.Path.{_≡_};
 ghost use Prim.Native.Nat.{_≤_};
@@ -9,68 +9,53 @@ ghost use Rattle.table.specs.Inner.{Buildable, RowRoom, NextRow, FirstRo
 use picture::Shift;
 use picture::Size;
 
-// The table's first row: the running sums of the plane's.
-fn first_row(row: &[i64], table: &mut [i64])
-    requires { ⌜ length (now row) ≤ length (now table) ⌝ }
-    ensures { λ _. ⌜ FirstRow (now (row .entry)) (now (table .entry)) (now (table .exit)) ⌝ }
+// The table's first row, from the plane's in its place: the running sums.
+fn first_row(columns: usize, table: &mut [i64])
+    requires { ⌜ columns ≤ length (now table) ⌝ }
+    ensures { λ _. ⌜ FirstRow columns (now (table .entry)) (now (table .exit)) ⌝ }
 {
     let mut sum = 0i64;
     let mut j = 0;
-    while j < row.len() {
-        sum = machine::wrapping_add(sum, row[j]);
+    while j < columns {
+        sum = machine::wrapping_add(sum, table[j]);
         table[j] = sum;
         j += 1;
     }
 }
 
-// The row at `start`, from the row above it and the plane's row.
-fn next_row(row: &[i64], start: usize, table: &mut [i64])
-    requires { ⌜ RowRoom (now row) start (now table) ⌝ }
-    ensures { λ _. ⌜ NextRow (now (row .entry)) start (now (table .entry)) (now (table .exit)) ⌝ }
+// The table's row at `start`, from the plane's in its place and the row above it.
+fn next_row(columns: usize, start: usize, table: &mut [i64])
+    requires { ⌜ RowRoom columns start (now table) ⌝ }
+    ensures { λ _. ⌜ NextRow columns start (now (table .entry)) (now (table .exit)) ⌝ }
 {
-    let above = start - row.len();
+    let above = start - columns;
     let mut sum = 0i64;
     let mut j = 0;
-    while j < row.len() {
-        sum = machine::wrapping_add(sum, row[j]);
-        table[start + j] = machine::wrapping_add(table[above + j], sum);
+    while j < columns {
+        let at = start + j;
+        sum = machine::wrapping_add(sum, table[at]);
+        let number = machine::wrapping_add(table[above + j], sum);
+        table[at] = number;
         j += 1;
     }
 }
 
-// Every row of the table; row is room for a row.
-fn table_rows(
-    size: Size,
-    f: &[i16],
-    g: &[i16],
-    shift: Shift,
-    plane: u32,
-    row: &mut [i64],
-    table: &mut [i64],
-)
-    requires { ⌜ Buildable size (now f) (now g) (now table) × (length (now row) ≡ size .columns) ⌝ }
-    ensures { λ _. ⌜ now (table .exit) ≡ tableOf (source size (now (f .entry)) (now (g .entry)) shift plane) ⌝ }
-{
-    let rows = size.rows;
-    let columns = size.columns;
-    picture::plane::part(size, f, g, shift, plane, 0, 0, row);
-    first_row(row, table);
-    let mut i = 1;
-    let mut start = columns;
-    while i < rows {
-        picture::plane::part(size, f, g, shift, plane, i, 0, row);
-        next_row(row, start, table);
-        start += columns;
-        i += 1;
-    }
-}
-
-// The whole table, with a buffer for a row on the stack.
+// The whole table, row by row.
 pub fn whole(size: Size, f: &[i16], g: &[i16], shift: Shift, plane: u32, table: &mut [i64])
     requires { ⌜ Buildable size (now f) (now g) (now table) ⌝ }
     ensures { λ _. ⌜ now (table .exit) ≡ tableOf (source size (now (f .entry)) (now (g .entry)) shift plane) ⌝ }
 {
+    let rows = size.rows;
     let columns = size.columns;
-    let mut row = [0i64; 1024];
-    table_rows(size, f, g, shift, plane, &mut row[..columns], table);
+    picture::plane::part(size, f, g, shift, plane, 0, 0, &mut table[..columns]);
+    first_row(columns, table);
+    let mut i = 1;
+    let mut start = columns;
+    while i < rows {
+        let end = start + columns;
+        picture::plane::part(size, f, g, shift, plane, i, 0, &mut table[start..end]);
+        next_row(columns, start, table);
+        start = end;
+        i += 1;
+    }
 }

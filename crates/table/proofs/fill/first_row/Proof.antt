@@ -1,9 +1,8 @@
--- `table::fill::first_row` meets its contract. The sum is the row's up to j, and the table is written up to j. Assumes nothing.
-use mathlib.Core.Path.{_≡_, refl, sym, _∙_, ap}
+-- `table::fill::first_row` meets its contract. The sum is the plane's row up to j, and the table's is written up to j. Assumes nothing.
+use mathlib.Core.Path.{_≡_, sym, _∙_, ap}
 use Prim.Native.Nat.{ℕ, suc, _-_}
 use native.Mathlib.Numerals.{add-one}
 use native.Mathlib.Omega.{arith}
-use lib.ListN.{length}
 use borrow.Author.Needs.{needs}
 use mir.Facts.{toZ-ofZ}
 use mir.Syntax.{w64}
@@ -16,19 +15,19 @@ use Rattle.table.proofs.fill.first_row.Statement.{statement}
 use Rattle.table.proofs.fill.first_row.Tie as tie
 
 abbrev Inv-loop : tie.InvT-loop
-Inv-loop row table₀ sum₀ j₀ table sum j = (toZ w64 sum ≡ wrap (sumTo j (at row))) × Upto (λ k. wrap (sumTo (suc k) (at row))) table₀ table j
+Inv-loop columns table₀ sum₀ j₀ table sum j = (toZ w64 sum ≡ wrap (sumTo j (at table₀))) × Upto (λ k. wrap (sumTo (suc k) (at table₀))) table₀ table j
 
 abbrev μ-loop : tie.MeasureT-loop
-μ-loop row table₀ sum₀ j₀ table sum j = length row - j
+μ-loop columns table₀ sum₀ j₀ table sum j = columns - j
 
 loop-holds : tie.Need-loop-holds Inv-loop μ-loop
 loop-holds c = (running-none _, upto-none _ _)
 
 mul-wrapping-add : tie.Need-mul-wrapping-add Inv-loop μ-loop
-mul-wrapping-add c = search needs
+mul-wrapping-add c = omega (arith, c .before .loop .inv .1 .size, c .before .before .pre)
 
-shared-slice-copy-out-wrapping-add : tie.Need-shared-slice-copy-out-wrapping-add Inv-loop μ-loop
-shared-slice-copy-out-wrapping-add c = search needs
+slice-copy-out-wrapping-add : tie.Need-slice-copy-out-wrapping-add Inv-loop μ-loop
+slice-copy-out-wrapping-add c = omega (arith, c .before .loop .inv .1 .size, c .before .before .pre)
 
 wrapping-add-requires : tie.Need-wrapping-add-requires Inv-loop μ-loop
 wrapping-add-requires c κs = search needs
@@ -48,13 +47,14 @@ loop-less c = search needs
 loop-again : tie.Need-loop-again Inv-loop μ-loop
 loop-again c =
     let s = c .before .before .before .before in
-    let row = s .args .row .now in
+    let row = at (s .args .table .now) in
     let l = c .before .before .before .loop in
     let r = c .wrapping-add in
-    let fits : SFits w64 (at row (l .j)) = record { sfits = c .before .wrapping-add-arg .given } in
-    let sum : toZ w64 (ofZ w64 (r .result)) ≡ wrap (sumTo (suc (l .j)) (at row)) =
-    toZ-ofZ (record { sfits = r .ok }) ∙ simp toZ-ofZ at (r .ensures) ∙ running-more (at row) (l .j) (toZ w64 (l .sum)) (at row (l .j)) (l .inv .0) refl in
-    (sum ∙ ap (λ (n : ℕ). wrap (sumTo n (at row))) (sym (add-one (l .j))), upto-more (l .inv .1) _ (omega (arith, s .pre)) sum)
+    let fits : SFits w64 (at (l .table) (l .j)) = record { sfits = c .before .wrapping-add-arg .given } in
+    let sum : toZ w64 (ofZ w64 (r .result)) ≡ wrap (sumTo (suc (l .j)) row) =
+    toZ-ofZ (record { sfits = r .ok }) ∙ simp toZ-ofZ at (r .ensures)
+    ∙ running-more row (l .j) (toZ w64 (l .sum)) (at (l .table) (l .j)) (l .inv .0) (ap wrap (l .inv .1 .rest (l .j) (omega arith))) in
+    (sum ∙ ap (λ (n : ℕ). wrap (sumTo n row)) (sym (add-one (l .j))), upto-more (l .inv .1) _ (omega (arith, s .pre)) sum)
 
 same-length : tie.Need-same-length Inv-loop μ-loop
 same-length c = c .before .loop .inv .1 .size
@@ -70,7 +70,7 @@ first-row-spec =
     μ-loop
     loop-holds
     mul-wrapping-add
-    shared-slice-copy-out-wrapping-add
+    slice-copy-out-wrapping-add
     wrapping-add-requires
     mul-sum
     slice-set-from-sum
