@@ -109,3 +109,7 @@ pub width-small : (w : Window) → T (windowLegal w) → width (shapeOf w) ≤ 1
 width-small w t =
     let s = shapeOf w in
     omega (arith, dual s .from 0 (width s) (omega arith) (omega arith) .1, small w t .narrow 0)
+
+-- and so is its reach in any row
+pub reach-small : (w : Window) → T (windowLegal w) → (d r : ℕ) → r ≡ reach (shapeOf w) d → r ≤ 127
+reach-small w t d r e = omega (arith, e, small w t .narrow d)

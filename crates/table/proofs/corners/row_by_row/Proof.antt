@@ -10,8 +10,7 @@ use Rattle.numbers.specs.Sum.{sumTo}
 use Rattle.numbers.specs.Wrap.{wrap}
 use Rattle.numbers.proofs.Running.{range-none, range-more}
 use Rattle.picture.specs.Window.{shapeOf}
-use Rattle.picture.proofs.Windows.{small}
-use Rattle.table.proofs.Rectangles.{rowPart, part-read, rows-read}
+use Rattle.table.proofs.Rectangles.{rowPart, part-read, rows-read, reach-small}
 use Rattle.table.proofs.corners.row_by_row.Statement.{statement}
 use Rattle.table.proofs.corners.row_by_row.Tie as tie
 
@@ -48,8 +47,7 @@ rectangle-requires c κs =
     let s = c .before .before .before .before .before .before .before in
     let on = s .pre .0 in
     let below : c .before .before .before .loop .m < s .args .size .rows = omega (arith, c .before .before .before .before .before .high .ensures) in
-    let narrow : c .reach .result ≤ 127 = omega (arith, c .reach .ensures, small (s .args .window) (s .pre .1) .narrow (c .before .distance .result)) in
-    (record { table = on .table; row = below; column = on .column }, omega arith, narrow)
+    (record { table = on .table; row = below; column = on .column }, omega arith, reach-small (s .args .window) (s .pre .1) _ _ (c .reach .ensures))
 
 wrapping-add-requires : tie.Need-wrapping-add-requires Inv-loop μ-loop
 wrapping-add-requires c κs = search needs

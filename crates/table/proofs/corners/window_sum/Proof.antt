@@ -22,8 +22,9 @@ width-requires c κs = search needs
 rectangle-requires : tie.Need-rectangle-requires
 rectangle-requires c κs =
     let s = c .before .before .before .before in
-    let w = s .args .window in
-    (s .pre .0, omega (arith, c .before .height .ensures, small w (s .pre .1) .low), omega (arith, c .width .ensures, width-small w (s .pre .1)))
+    let low = small (s .args .window) (s .pre .1) .low in
+    let narrow = width-small (s .args .window) (s .pre .1) in
+    (s .pre .0, omega (arith, c .before .height .ensures, c .width .ensures, low, narrow), omega (arith, c .before .height .ensures, c .width .ensures, low, narrow))
 
 returns : tie.Need-returns
 unfolding readTable
