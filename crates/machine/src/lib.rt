@@ -1,6 +1,6 @@
-// The few operations that the language lacks: sums of i64 that wrap at 64 bits, the difference of two levels, and the magnitude of an i64.
+// The few operations that the language lacks: sums of i64 that wrap at 64 bits, the difference and the product of two levels, and the magnitude of an i64.
 ghost use mathlib.Core.Path.{_≡_};
-ghost use lib.IntN.{pos, natAbs, _+ℤ_, _-ℤ_};
+ghost use lib.IntN.{pos, natAbs, _+ℤ_, _-ℤ_, _*ℤ_};
 ghost use Rattle.numbers.specs.Wrap.{residue, spelled, wrap};
 
 pub mod wide; // wide.rt: products past 64 bits
@@ -56,7 +56,14 @@ fn raised(e: i16) -> u16
 pub fn difference(e: i16, l: i16) -> i64
     ensures { λ r. ⌜ r ≡ e -ℤ l ⌝ }
 {
-    raised(e) as i64 - raised(l) as i64
+    (raised(e) as i32 - raised(l) as i32) as i64
+}
+
+// a times b, of two levels: of 31 bits, which 32 hold.
+pub fn product(a: i16, b: i16) -> i64
+    ensures { λ r. ⌜ r ≡ a *ℤ b ⌝ }
+{
+    (a as i32 * b as i32) as i64
 }
 
 // |z|, also of the least i64, which has no opposite there.
