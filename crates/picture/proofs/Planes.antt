@@ -1,17 +1,20 @@
--- How large a plane's values are.
+-- How large a plane's values are, and where they are 0.
 -- Assumes nothing.
 use mathlib.Core.Path.{_≡_, refl, sym, _∙_, ap}
 use Prim.Native.Nat.{ℕ, zero, suc, _+_, _-_, _*_, _^_, _≤_, _<_}
 use native.Mathlib.Omega.{arith}
 use native.Mathlib.Nat.{mul-le-mul}
+use mathlib.Core.Bool.{_&&_}
 use mathlib.Core.List.{List}
+use lib.Dec.{ltb, ltb→lt}
 use lib.ListN.{getD}
 use lib.IntN.{ℤ, pos, negsuc, natAbs, _+ℤ_, _*ℤ_}
 use Rattle.numbers.specs.Sum.{pick}
-use Rattle.numbers.proofs.Sums.{pick-bound}
+use Rattle.numbers.proofs.Sums.{pick-bound, pick-no}
+use Rattle.numbers.proofs.Tests.{and-left}
 use Rattle.numbers.proofs.Magnitudes.{size-mul}
 use lib.Signed.{mag, natAbs-le}
-use Rattle.picture.specs.Size.{rowAt, columnAt}
+use Rattle.picture.specs.Size.{inRange, inside, rowAt, columnAt}
 use Rattle.picture.specs.Picture.{Source, Levels, counts, planeValue, planeAt, levelOf, otherOf, levelAt}
 
 pub product-bound : (x y : ℤ) → natAbs x ≤ 32768 → natAbs y ≤ 32768 → natAbs (x *ℤ y) ≤ 2 ^ 30
@@ -36,3 +39,11 @@ module _ (x : Source) (hf : Levels (x .f)) (hg : Levels (x .g)) where
   pub plane-bound : (m n : ℕ) → natAbs (planeAt x m n) ≤ 2 ^ 30
   unfolding planeAt
   plane-bound m n = omega (arith, pick-bound (counts x m n) (planeValue (x .plane) (levelOf x m n) (otherOf x m n)), value-bound (x .plane) (levelOf x m n) (otherOf x m n) (level-bound m n) (other-bound m n))
+
+-- past the last row no cell counts
+pub plane-past : (x : Source) (m n : ℕ) → x .size .rows ≤ m → planeAt x m n ≡ pos 0
+unfolding planeAt counts inRange
+plane-past x m n h =
+    let here = ltb m (x .size .rows) && ltb n (x .size .columns) in
+    let there = inside (x .size) (pos m +ℤ x .shift .down) (pos n +ℤ x .shift .right) in
+    pick-no (counts x m n) _ (λ t. omega (arith, ltb→lt m (x .size .rows) (and-left (ltb m (x .size .rows)) (ltb n (x .size .columns)) (and-left here there t))))

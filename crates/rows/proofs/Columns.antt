@@ -1,4 +1,4 @@
--- A rectangle's column sums, as code makes them: row by row from row 0, and from one row to the next.
+-- A rectangle's column sums of row 0, as code makes them: row by row.
 -- Assumes nothing.
 use mathlib.Core.Path.{_≡_, refl, sym, _∙_, ap, ap₂}
 use Prim.Native.Nat.{ℕ, zero, suc, _+_, _-_, _^_, _≤_, _<_, min}
@@ -17,7 +17,7 @@ use Rattle.numbers.proofs.Wraps.{wrap-add, wrap-small}
 use Rattle.numbers.proofs.Writes.{at}
 use Rattle.picture.specs.declared.Size.{Size}
 use Rattle.picture.proofs.Refusals.{InLimits}
-use Rattle.rows.specs.Rows.{columnSum, cellBelow, cellAbove, enterLeave}
+use Rattle.rows.specs.Rows.{columnSum}
 use Rattle.rows.proofs.Steps.{column-fits}
 
 -- the wrapped sums of the columns over the first m rows
@@ -29,18 +29,16 @@ module _ (P : ℕ → ℕ → ℤ) (columns : ℕ) where
   unfolding sumTo wrap
   columns-none n work e w = w ∙ ap (λ (m : ℕ). tabulate m (λ k. pos 0)) e
 
-  pub columns-more : (m n : ℕ) (work row next : List ℤ) → work ≡ columnsTo P columns m → row ≡ tabulate n (λ k. P m (0 + k)) → n ≡ columns →
-      next ≡ tabulate (length work) (λ j. wrap (at work j +ℤ at row j)) → next ≡ columnsTo P columns (m + 1)
-  columns-more m n work row next w r e o =
-      o ∙ ap (λ (k : ℕ). tabulate k (λ j. wrap (at work j +ℤ at row j))) (ap length w ∙ length-tabulate columns _)
-      ∙ tabulate-cong columns (λ j. wrap (at work j +ℤ at row j)) (λ j. wrap (sumTo (m + 1) (λ k. P k j))) at-column
+  pub columns-more : (m past : ℕ) (work next : List ℤ) → ((j : ℕ) → P past j ≡ pos 0) → work ≡ columnsTo P columns m →
+      next ≡ tabulate columns (λ j. wrap (at work j +ℤ (P m j -ℤ P past j))) → next ≡ columnsTo P columns (m + 1)
+  columns-more m past work next none w o =
+      o ∙ tabulate-cong columns (λ j. wrap (at work j +ℤ (P m j -ℤ P past j))) (λ j. wrap (sumTo (m + 1) (λ k. P k j))) at-column
     where
-      at-column : (j : ℕ) → j < columns → wrap (at work j +ℤ at row j) ≡ wrap (sumTo (m + 1) (λ k. P k j))
+      at-column : (j : ℕ) → j < columns → wrap (at work j +ℤ (P m j -ℤ P past j)) ≡ wrap (sumTo (m + 1) (λ k. P k j))
       at-column j j< =
-          let here : 0 + j ≡ j = omega arith in
           ap₂ (λ (x y : ℤ). wrap (x +ℤ y))
           (ap (λ (l : List ℤ). at l j) w ∙ getD-tabulate columns j (λ j. wrap (sumTo m (λ k. P k j))) (pos 0) j<)
-          (ap (λ (l : List ℤ). at l j) r ∙ getD-tabulate n j (λ k. P m (0 + k)) (pos 0) (omega arith) ∙ ap (P m) here)
+          (ap (λ (y : ℤ). P m j -ℤ y) (none j) ∙ +ℤ-idr (P m j))
           ∙ wrap-add (sumTo m (λ k. P k j)) (P m j)
           ∙ ap wrap (sym (sum-suc m (λ k. P k j)) ∙ ap (λ (q : ℕ). sumTo q (λ k. P k j)) (sym (add-one m)))
 
@@ -58,15 +56,3 @@ module _ (z : Size) (P : ℕ → ℕ → ℤ) (lim : InLimits z) (small : (m n :
   columns-all a m work e w =
       w ∙ tabulate-cong (z .columns) (λ j. wrap (sumTo m (λ k. P k j))) (columnSum z P a 0)
       (λ j j<. ap (λ (n : ℕ). wrap (sumTo n (λ k. P k j))) e ∙ ap wrap (sym (column-0 a j)) ∙ wrap-small (columnSum z P a 0 j) (omega (arith, column-fits z P lim small a 0 j)))
-
--- from row i to i+1
-pub columns-next : (z : Size) (P : ℕ → ℕ → ℤ) (i a n : ℕ) (work enter leave out : List ℤ) → n ≡ z .columns →
-    enter ≡ tabulate (z .columns) (cellBelow z P (i + 1) a) → leave ≡ tabulate (z .columns) (cellAbove z P i a) →
-    out ≡ tabulate n (λ j. wrap (at work j +ℤ (at enter j -ℤ at leave j))) → out ≡ tabulate (z .columns) (λ j. wrap (at work j +ℤ enterLeave z P i a j))
-unfolding enterLeave
-columns-next z P i a n work enter leave out room e l o =
-    o ∙ ap (λ (m : ℕ). tabulate m (λ j. wrap (at work j +ℤ (at enter j -ℤ at leave j)))) room
-    ∙ tabulate-cong (z .columns) (λ j. wrap (at work j +ℤ (at enter j -ℤ at leave j))) (λ j. wrap (at work j +ℤ (cellBelow z P (suc i) a j -ℤ cellAbove z P i a j)))
-    (λ j j<. ap₂ (λ (x y : ℤ). wrap (at work j +ℤ (x -ℤ y)))
-    (ap (λ (m : List ℤ). at m j) e ∙ getD-tabulate (z .columns) j (cellBelow z P (i + 1) a) (pos 0) j< ∙ ap (λ (m : ℕ). cellBelow z P m a j) (add-one i))
-    (ap (λ (m : List ℤ). at m j) l ∙ getD-tabulate (z .columns) j (cellAbove z P i a) (pos 0) j<))

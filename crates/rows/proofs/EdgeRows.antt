@@ -200,15 +200,11 @@ module _ (z : Size) (P : ℕ → ℕ → ℤ) (s : Shape) (i : ℕ) (work : List
   added n = edgesTo z P s i work n
 
   -- distance 0 is the column itself
-  pub edges-1 : (n d : ℕ) (change out : List ℤ) → n ≡ z .columns → d ≡ depth s 0 → change ≡ tabulate (z .columns) (λ k. wrap (enterLeave z P i d k)) →
-      out ≡ tabulate n (λ j. wrap (at work j +ℤ at change j)) → out ≡ added 1
+  pub edges-1 : (d : ℕ) (out : List ℤ) → d ≡ depth s 0 → out ≡ tabulate (z .columns) (λ j. wrap (at work j +ℤ enterLeave z P i d j)) → out ≡ added 1
   unfolding atDistance sumTo
-  edges-1 n d change out room ed e o =
-      o ∙ ap (λ (m : ℕ). tabulate m (λ j. wrap (at work j +ℤ at change j))) room
-      ∙ tabulate-cong (z .columns) (λ j. wrap (at work j +ℤ at change j)) (λ j. wrap (at work j +ℤ (pos 0 +ℤ enterLeave z P i (depth s 0) j)))
-      (λ j j<. ap (λ (x : ℤ). wrap (at work j +ℤ x)) (ap (λ (l : List ℤ). at l j) e ∙ getD-tabulate (z .columns) j (λ k. wrap (enterLeave z P i d k)) (pos 0) j< ∙ ap (λ (q : ℕ). wrap (enterLeave z P i q j)) ed)
-      ∙ wrap-add-right (at work j) (enterLeave z P i (depth s 0) j)
-      ∙ ap (λ (x : ℤ). wrap (at work j +ℤ x)) (sym (+ℤ-idl (enterLeave z P i (depth s 0) j))))
+  edges-1 d out ed o =
+      o ∙ tabulate-cong (z .columns) (λ j. wrap (at work j +ℤ enterLeave z P i d j)) (λ j. wrap (at work j +ℤ (pos 0 +ℤ enterLeave z P i (depth s 0) j)))
+      (λ j j<. ap (λ (x : ℤ). wrap (at work j +ℤ x)) (ap (λ (q : ℕ). enterLeave z P i q j) ed ∙ sym (+ℤ-idl (enterLeave z P i (depth s 0) j))))
 
   -- from a work area `start` on, the distances from 1 up to n
   abbrev pub later : List ℤ → ℕ → List ℤ

@@ -23,36 +23,14 @@ pub record RowAsked (z : Size) (f g : List ℤ) (i d : ℕ) (out : List ℤ) : T
   pub distance : d ≤ 127
   pub room : length out ≡ z .columns
 
--- the same, with room for two rows
-pub record ChangeAsked (z : Size) (f g : List ℤ) (i d : ℕ) (change leave : List ℤ) : Type 0 where
-  pub size : T (sizeLegal z)
-  pub length-f : length f ≡ cells z
-  pub length-g : length g ≡ cells z
-  pub row : i < 256
-  pub distance : d ≤ 127
-  pub room : length change ≡ z .columns
-  pub room-leave : length leave ≡ z .columns
-
--- pictures of levels, a work area, and room for a row
-pub record FirstColumnsAsked (z : Size) (f g work row : List ℤ) : Type 0 where
+-- pictures of levels, and a work area
+pub record FirstColumnsAsked (z : Size) (f g work : List ℤ) : Type 0 where
   pub size : T (sizeLegal z)
   pub length-f : length f ≡ cells z
   pub length-g : length g ≡ cells z
   pub levels-f : Levels f
   pub levels-g : Levels g
   pub room-work : length work ≡ z .columns
-  pub room : length row ≡ z .columns
-
--- a half height, a row, a work area, and room for two rows
-pub record ColumnsAsked (z : Size) (f g : List ℤ) (a i : ℕ) (work enter leave : List ℤ) : Type 0 where
-  pub size : T (sizeLegal z)
-  pub length-f : length f ≡ cells z
-  pub length-g : length g ≡ cells z
-  pub half : a ≤ 127
-  pub row : i < 256
-  pub room-work : length work ≡ z .columns
-  pub room-enter : length enter ≡ z .columns
-  pub room-leave : length leave ≡ z .columns
 
 -- inputs that were checked, of levels
 pub record Checked (x : Inputs) : Type 0 where
@@ -68,28 +46,19 @@ pub record FirstAsked (x : Inputs) (work : List ℤ) : Type 0 where
   pub inputs : Checked x
   pub room-work : length work ≡ x .source .size .columns
 
--- such inputs, a work area, and buffers for two rows
-pub record StepAsked (x : Inputs) (i : ℕ) (work change leave : List ℤ) : Type 0 where
+-- such inputs, a row of the picture, a work area, and room for a row
+pub record StepAsked (x : Inputs) (i : ℕ) (work line : List ℤ) : Type 0 where
   pub inputs : Checked x
   pub row : i < x .source .size .rows
   pub room-work : length work ≡ x .source .size .columns
-  pub room : length change ≡ x .source .size .columns
-  pub room-leave : length leave ≡ x .source .size .columns
+  pub room : length line ≡ x .source .size .columns
 
 -- the same, a distance from 1 on, and a work area of numbers of 64 bits
-pub record EdgeAsked (x : Inputs) (i c : ℕ) (work change leave : List ℤ) : Type 0 where
-  pub step : StepAsked x i work change leave
+pub record EdgeAsked (x : Inputs) (i c : ℕ) (work line : List ℤ) : Type 0 where
+  pub step : StepAsked x i work line
   pub some : 1 ≤ c
   pub few : c < x .source .size .columns
   pub wrapped : (j : ℕ) → wrap (getD work j (pos 0)) ≡ getD work j (pos 0)
-
--- checked inputs, a position of the picture, a work area, and buffers for two rows
-pub record WorkAsked (x : Inputs) (position : ℕ) (work enter leave : List ℤ) : Type 0 where
-  pub inputs : Checked x
-  pub row : position < x .source .size .rows
-  pub room-work : length work ≡ x .source .size .columns
-  pub room-enter : length enter ≡ x .source .size .columns
-  pub room-leave : length leave ≡ x .source .size .columns
 
 -- a legal window, a work area, and room for a row
 pub record OutputAsked (z : Size) (w : Window) (work out : List ℤ) : Type 0 where
@@ -97,15 +66,7 @@ pub record OutputAsked (z : Size) (w : Window) (work out : List ℤ) : Type 0 wh
   pub room-work : length work ≡ z .columns
   pub room : length out ≡ z .columns
 
--- checked inputs, rows of the picture from a position on, a work area, room for those rows, and buffers for two rows
-pub record AdvanceAsked (x : Inputs) (position n : ℕ) (work out enter leave : List ℤ) : Type 0 where
-  pub inputs : Checked x
-  pub rows : position + n ≤ x .source .size .rows
-  pub room-work : length work ≡ x .source .size .columns
-  pub room : length out ≡ n * x .source .size .columns
-  pub room-enter : length enter ≡ x .source .size .columns
-  pub room-leave : length leave ≡ x .source .size .columns
-
+-- checked inputs, rows of the picture from a position on, a work area, and room for those rows
 pub record ManyAsked (x : Inputs) (position n : ℕ) (work out : List ℤ) : Type 0 where
   pub inputs : Checked x
   pub rows : position + n ≤ x .source .size .rows

@@ -4,54 +4,13 @@ ghost use mathlib.Core.Path.{_≡_};
 ghost use Rattle.picture.specs.Window.{shapeOf};
 ghost use Rattle.picture.specs.Picture.{source, inputs, planeAt};
 ghost use Rattle.rows.specs.Rows.{strip};
-ghost use Rattle.rows.specs.Asked.{AdvanceAsked, ManyAsked, Advanced};
+ghost use Rattle.rows.specs.Asked.{ManyAsked, Advanced};
 use super::work as areas;
 use picture::Shift;
 use picture::Size;
 use picture::Window;
 
-// n rows from a position on; enter and leave are room for a row each.
-fn rows_from(
-    position: usize,
-    size: Size,
-    f: &[i16],
-    g: &[i16],
-    window: Window,
-    shift: Shift,
-    plane: u32,
-    n: usize,
-    work: &mut [i64],
-    out: &mut [i64],
-    enter: &mut [i64],
-    leave: &mut [i64],
-)
-    requires { ⌜ AdvanceAsked (inputs size (now f) (now g) window shift plane) position n (now work) (now out) (now enter) (now leave) ⌝ }
-    ensures { λ _. ⌜ Advanced (strip size (planeAt (source size (now (f .entry)) (now (g .entry)) shift plane)) (shapeOf window) position n (now (work .entry))) (now (work .exit)) (now (out .exit)) ⌝ }
-{
-    let columns = size.columns;
-    let mut k = 0;
-    let mut start = 0;
-    while k < n {
-        let end = start + columns;
-        areas::area(
-            position + k,
-            size,
-            f,
-            g,
-            window,
-            shift,
-            plane,
-            work,
-            enter,
-            leave,
-        );
-        areas::output(size, window, work, &mut out[start..end]);
-        start = end;
-        k += 1;
-    }
-}
-
-// The same, with the room on the stack.
+// n rows from a position on.
 pub fn many(
     position: usize,
     size: Size,
@@ -68,20 +27,22 @@ pub fn many(
     ensures { λ _. ⌜ Advanced (strip size (planeAt (source size (now (f .entry)) (now (g .entry)) shift plane)) (shapeOf window) position n (now (work .entry))) (now (work .exit)) (now (out .exit)) ⌝ }
 {
     let columns = size.columns;
-    let mut enter = [0i64; 1024];
-    let mut leave = [0i64; 1024];
-    rows_from(
-        position,
-        size,
-        f,
-        g,
-        window,
-        shift,
-        plane,
-        n,
-        work,
-        out,
-        &mut enter[..columns],
-        &mut leave[..columns],
-    );
+    let mut k = 0;
+    let mut start = 0;
+    while k < n {
+        let end = start + columns;
+        areas::next(
+            position + k,
+            size,
+            f,
+            g,
+            window,
+            shift,
+            plane,
+            work,
+            &mut out[start..end],
+        );
+        start = end;
+        k += 1;
+    }
 }

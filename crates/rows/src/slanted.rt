@@ -53,28 +53,17 @@ fn edge(
     i: usize,
     c: usize,
     work: &mut [i64],
-    change: &mut [i64],
-    leave: &mut [i64],
+    row: &mut [i64],
 )
-    requires { ⌜ EdgeAsked (inputs size (now f) (now g) window shift plane) i c (now work) (now change) (now leave) ⌝ }
+    requires { ⌜ EdgeAsked (inputs size (now f) (now g) window shift plane) i c (now work) (now row) ⌝ }
     ensures { λ _. ⌜ now (work .exit) ≡ tabulate (size .columns) (λ j. wrap (getD (now (work .entry)) j (pos 0) +ℤ edgeChange size (planeAt (source size (now (f .entry)) (now (g .entry)) shift plane)) (shapeOf window) i c j)) ⌝ }
 {
     let columns = size.columns;
     let zero = 0;
     let n = columns - c;
-    step::change(
-        size,
-        f,
-        g,
-        shift,
-        plane,
-        i,
-        shape::depth(window, c),
-        change,
-        leave,
-    );
-    step::add(&mut work[c..columns], &change[zero..n]);
-    step::add(&mut work[zero..n], &change[c..columns]);
+    step::gain(size, f, g, shift, plane, i, shape::depth(window, c), row);
+    step::add(&mut work[c..columns], &row[zero..n]);
+    step::add(&mut work[zero..n], &row[c..columns]);
 }
 
 // From row i to i+1.
@@ -87,29 +76,17 @@ pub fn next(
     plane: u32,
     i: usize,
     work: &mut [i64],
-    change: &mut [i64],
-    leave: &mut [i64],
+    row: &mut [i64],
 )
-    requires { ⌜ StepAsked (inputs size (now f) (now g) window shift plane) i (now work) (now change) (now leave) ⌝ }
+    requires { ⌜ StepAsked (inputs size (now f) (now g) window shift plane) i (now work) (now row) ⌝ }
     ensures { λ _. ⌜ now (work .exit) ≡ edgesTo size (planeAt (source size (now (f .entry)) (now (g .entry)) shift plane)) (shapeOf window) i (now (work .entry)) (min (suc (width (shapeOf window))) (size .columns)) ⌝ }
 {
     let columns = size.columns;
     let end = clip::high(0, shape::width(window), columns);
-    step::change(
-        size,
-        f,
-        g,
-        shift,
-        plane,
-        i,
-        shape::depth(window, 0),
-        change,
-        leave,
-    );
-    step::add(work, change);
+    step::add_gain(size, f, g, shift, plane, i, shape::depth(window, 0), work);
     let mut c = 1;
     while c < end {
-        edge(size, f, g, window, shift, plane, i, c, work, change, leave);
+        edge(size, f, g, window, shift, plane, i, c, work, row);
         c += 1;
     }
 }

@@ -5,17 +5,18 @@ ghost use lib.ListN.{length};
 ghost use Rattle.picture.specs.Window.{shapeOf};
 ghost use Rattle.picture.specs.Picture.{source, inputs, planeAt};
 ghost use Rattle.rows.specs.Rows.{workAfter, outputRow};
-ghost use Rattle.rows.specs.Asked.{WorkAsked, OutputAsked};
+ghost use Rattle.rows.specs.Asked.{StepAsked, OutputAsked};
 use super::across;
 use super::rectangle;
 use super::slanted;
+use super::step;
 use picture::Shift;
 use picture::Size;
 use picture::Window;
 use picture::shape;
 
-// The work area moves on to the row at a position: at position 0 it is not read.
-pub fn area(
+// The work area moves on to the row at a position: at position 0 it is not read. The room for a row serves on the way.
+fn area(
     position: usize,
     size: Size,
     f: &[i16],
@@ -24,20 +25,19 @@ pub fn area(
     shift: Shift,
     plane: u32,
     work: &mut [i64],
-    enter: &mut [i64],
-    leave: &mut [i64],
+    row: &mut [i64],
 )
-    requires { ⌜ WorkAsked (inputs size (now f) (now g) window shift plane) position (now work) (now enter) (now leave) ⌝ }
+    requires { ⌜ StepAsked (inputs size (now f) (now g) window shift plane) position (now work) (now row) ⌝ }
     ensures { λ _. ⌜ now (work .exit) ≡ workAfter size (planeAt (source size (now (f .entry)) (now (g .entry)) shift plane)) (shapeOf window) position (now (work .entry)) ⌝ }
 {
     if shape::is_rectangle(window) {
         let a = shape::height(window);
         if position == 0 {
-            rectangle::first(size, f, g, shift, plane, a, work, enter);
+            rectangle::first(size, f, g, shift, plane, a, work);
             return;
         }
         let i = position - 1;
-        rectangle::next(size, f, g, shift, plane, a, i, work, enter, leave);
+        step::add_gain(size, f, g, shift, plane, i, a, work);
         return;
     }
     if position == 0 {
@@ -45,7 +45,7 @@ pub fn area(
         return;
     }
     let i = position - 1;
-    slanted::next(size, f, g, window, shift, plane, i, work, enter, leave);
+    slanted::next(size, f, g, window, shift, plane, i, work, row);
 }
 
 fn copy(work: &[i64], out: &mut [i64])
@@ -60,7 +60,7 @@ fn copy(work: &[i64], out: &mut [i64])
 }
 
 // The output row: of a rectangle the sums across the work area, of the others the work area.
-pub fn output(size: Size, window: Window, work: &[i64], out: &mut [i64])
+fn output(size: Size, window: Window, work: &[i64], out: &mut [i64])
     requires { ⌜ OutputAsked size window (now work) (now out) ⌝ }
     ensures { λ _. ⌜ now (out .exit) ≡ outputRow size (shapeOf window) (now (work .entry)) ⌝ }
 {
@@ -69,4 +69,24 @@ pub fn output(size: Size, window: Window, work: &[i64], out: &mut [i64])
         return;
     }
     copy(work, out);
+}
+
+// The work area moves on to the row at a position, and out is its output row.
+pub fn next(
+    position: usize,
+    size: Size,
+    f: &[i16],
+    g: &[i16],
+    window: Window,
+    shift: Shift,
+    plane: u32,
+    work: &mut [i64],
+    out: &mut [i64],
+)
+    requires { ⌜ StepAsked (inputs size (now f) (now g) window shift plane) position (now work) (now out) ⌝ }
+    ensures work { λ _. ⌜ now (work .exit) ≡ workAfter size (planeAt (source size (now (f .entry)) (now (g .entry)) shift plane)) (shapeOf window) position (now (work .entry)) ⌝ }
+    ensures out { λ _. ⌜ now (out .exit) ≡ outputRow size (shapeOf window) (workAfter size (planeAt (source size (now (f .entry)) (now (g .entry)) shift plane)) (shapeOf window) position (now (work .entry))) ⌝ }
+{
+    area(position, size, f, g, window, shift, plane, work, out);
+    output(size, window, work, out);
 }

@@ -8,16 +8,16 @@ use lib.ListN.{length}
 use Rattle.numbers.proofs.Grids.{length-tabulate}
 use Rattle.picture.specs.Picture.{Source, source, planeAt}
 use Rattle.picture.proofs.Refusals.{in-limits}
-use Rattle.picture.proofs.Planes.{plane-bound}
+use Rattle.picture.proofs.Planes.{plane-bound, plane-past}
 use Rattle.rows.proofs.Columns.{columnsTo, columns-none, columns-more, columns-all}
 use Rattle.rows.proofs.rectangle.first.Statement.{statement}
 use Rattle.rows.proofs.rectangle.first.Tie as tie
 
 abbrev Inv-loop : tie.InvT-loop
-Inv-loop size f g shift plane a work₀ row₀ rows end m₀ work row m = (m ≤ end) × (length row ≡ size .columns) × (work ≡ columnsTo (planeAt (source size f g shift plane)) (size .columns) m)
+Inv-loop size f g shift plane a work₀ rows end m₀ work m = (m ≤ end) × (work ≡ columnsTo (planeAt (source size f g shift plane)) (size .columns) m)
 
 abbrev μ-loop : tie.MeasureT-loop
-μ-loop size f g shift plane a work₀ row₀ rows end m₀ work row m = end - m
+μ-loop size f g shift plane a work₀ rows end m₀ work m = end - m
 
 abbrev pictures : tie.Start Inv-loop μ-loop → Source
 pictures s = source (s .args .size) (s .args .f .now) (s .args .g .now) (s .args .shift) (s .args .plane)
@@ -34,23 +34,17 @@ fill-requires c κs = search needs
 loop-holds : tie.Need-loop-holds Inv-loop μ-loop
 loop-holds c =
     let s = c .before .before .before .before in
-    (omega arith, s .pre .room, columns-none (plane s) (s .args .size .columns) _ _ (s .pre .room-work) (c .before .fill .ensures))
+    (omega arith, columns-none (plane s) (s .args .size .columns) _ _ (s .pre .room-work) (c .before .fill .ensures))
 
-part-requires : tie.Need-part-requires Inv-loop μ-loop
-part-requires c κs =
+exchange-requires : tie.Need-exchange-requires Inv-loop μ-loop
+exchange-requires c κs =
     let s = c .before .before .before .before .before .before .before in
     record {
       size = s .pre .size;
       length-f = s .pre .length-f;
       length-g = s .pre .length-g;
-      row-inside = omega (arith, c .before .loop-test .taken, c .before .before .before .before .before .before .high .ensures);
-      part-inside = omega (arith, c .before .before .loop .inv .1);
+      room = ap length (c .before .before .loop .inv .1) ∙ length-tabulate _ _;
     }
-
-add-requires : tie.Need-add-requires Inv-loop μ-loop
-add-requires c κs =
-    let l = c .before .before .before .before .before .before .loop in
-    c .before .before .before .part .kept .1 .1 .1 .1 .1 .1 .1 .0 ∙ l .inv .1 ∙ sym (ap length (l .inv .2) ∙ length-tabulate _ _)
 
 add-m : tie.Need-add-m Inv-loop μ-loop
 add-m c = search needs
@@ -60,28 +54,23 @@ loop-less c = search needs
 
 loop-again : tie.Need-loop-again Inv-loop μ-loop
 loop-again c =
-    let l = c .before .before .before .before .before .before .before .before .loop in
-    let s = c .before .before .before .before .before .before .before .before .before .before .before .before .before in
-    let call = c .before .before .before .before .before .part in (
+    let l = c .before .before .before .before .loop in
+    let s = c .before .before .before .before .before .before .before .before .before in (
       omega arith,
-      call .kept .1 .1 .1 .1 .1 .1 .1 .0 ∙ l .inv .1,
-      columns-more (plane s) (s .args .size .columns) (l .m) _ _ _ _ (l .inv .2) (call .ensures) (l .inv .1) (c .before .add .ensures),
+      columns-more (plane s) (s .args .size .columns) (l .m) (s .args .size .rows) _ _ (λ j. plane-past (pictures s) (s .args .size .rows) j (omega arith)) (l .inv .1) (c .before .exchange .ensures),
     )
 
 same-length : tie.Need-same-length Inv-loop μ-loop
 same-length c =
     let s = c .before .before .before .before .before .before in
-    ap length (c .before .loop .inv .2) ∙ length-tabulate _ _ ∙ sym (s .pre .room-work)
-
-same-length-2 : tie.Need-same-length-2 Inv-loop μ-loop
-same-length-2 c = search needs
+    ap length (c .before .loop .inv .1) ∙ length-tabulate _ _ ∙ sym (s .pre .room-work)
 
 returns : tie.Need-returns Inv-loop μ-loop
 returns c =
     let s = c .before .before .before .before .before .before in
     let l = c .before .loop in
     columns-all (s .args .size) (plane s) (in-limits (s .args .size) (s .pre .size)) (plane-bound (pictures s) (s .pre .levels-f) (s .pre .levels-g)) (s .args .a) (l .m) _
-    (omega (arith, c .loop-test .left, c .before .before .before .before .before .high .ensures)) (l .inv .2)
+    (omega (arith, c .loop-test .left, c .before .before .before .before .before .high .ensures)) (l .inv .1)
 
 pub first-spec : {M : Type 1} → statement M
 first-spec =
@@ -92,11 +81,9 @@ first-spec =
     high-requires
     fill-requires
     loop-holds
-    part-requires
-    add-requires
+    exchange-requires
     add-m
     loop-less
     loop-again
     same-length
-    same-length-2
     returns)

@@ -24,7 +24,7 @@ sub-n c = search needs
 -- the lists that the two additions made
 module _ (c : tie.After-work2) where
   abbrev start : tie.Start
-  start = c .before .before .before .before .before .before .before .before .before .before .before .before .before .before .before .before
+  start = c .before .before .before .before .before .before .before .before .before .before .before .before .before .before
 
   abbrev columns : ℕ
   columns = start .args .size .columns
@@ -33,7 +33,7 @@ module _ (c : tie.After-work2) where
   distance = start .args .c
 
   abbrev changes : List ℤ
-  changes = c .before .before .before .before .before .before .before .before .before .before .before .before .change .last .1 .1 .1 .1 .1 .1 .1 .0
+  changes = c .before .before .before .before .before .before .before .before .before .before .before .gain .last .1 .1 .1 .1 .1 .1 .1 .0
 
   abbrev behind : List ℤ
   behind = c .before .before .before .before .before .before .add .last .0
@@ -45,7 +45,7 @@ module _ (c : tie.After-work2) where
   once = putMid distance (columns - distance) (start .args .work .now) behind
 
   length-changes : length changes ≡ columns
-  length-changes = c .before .before .before .before .before .before .before .before .before .before .before .before .change .kept .1 .1 .1 .1 .1 .1 .1 .0 ∙ start .pre .step .room
+  length-changes = c .before .before .before .before .before .before .before .before .before .before .before .gain .kept .1 .1 .1 .1 .1 .1 .1 .0 ∙ start .pre .step .room
 
   length-behind : length behind ≡ columns - distance
   length-behind = c .before .before .before .before .before .before .add .kept .0 ∙ slice-length distance columns (start .args .work .now) (omega (arith, start .pre .few)) (omega (arith, start .pre .step .room-work))
@@ -61,24 +61,23 @@ module _ (c : tie.After-work2) where
 
   changes-at : (k : ℕ) → k < columns → at changes k ≡ wrap (entering k)
   changes-at k k< =
-      tabulate-at changes _ _ (c .before .before .before .before .before .before .before .before .before .before .before .before .change .ensures) k (omega (arith, length-changes))
-      ∙ ap (λ (d : ℕ). wrap (enterLeave (start .args .size) (planeAt (source (start .args .size) (start .args .f .now) (start .args .g .now) (start .args .shift) (start .args .plane))) (start .args .i) d k)) (c .before .before .before .before .before .before .before .before .before .before .before .before .before .before .before .depth .ensures)
+      tabulate-at changes _ _ (c .before .before .before .before .before .before .before .before .before .before .before .gain .ensures) k (omega (arith, length-changes))
+      ∙ ap (λ (d : ℕ). wrap (enterLeave (start .args .size) (planeAt (source (start .args .size) (start .args .f .now) (start .args .g .now) (start .args .shift) (start .args .plane))) (start .args .i) d k)) (c .before .before .before .before .before .before .before .before .before .before .before .before .before .depth .ensures)
 
 depth-requires : tie.Need-depth-requires
 depth-requires c κs = search needs
 
-change-requires : tie.Need-change-requires
-change-requires c κs =
-    let s = c .before .before .before in
+gain-requires : tie.Need-gain-requires
+gain-requires c κs =
+    let s = c .before .before in
     let x = s .pre .step .inputs in
     record {
       size = x .size;
       length-f = x .length-f;
       length-g = x .length-g;
       row = omega (arith, s .pre .step .row, in-limits (s .args .size) (x .size) .few-rows);
-      distance = omega (arith, c .before .before .depth .ensures, depth-small (s .args .window) (x .window) (s .args .c));
+      distance = omega (arith, c .before .depth .ensures, depth-small (s .args .window) (x .window) (s .args .c));
       room = s .pre .step .room;
-      room-leave = s .pre .step .room-leave;
     }
 
 mul-add : tie.Need-mul-add
@@ -122,7 +121,7 @@ part-add-end-3 c = search needs
 
 mul-add-4 : tie.Need-mul-add-4
 mul-add-4 c =
-    let s = c .before .before .before .before .before .before .before .before .before .before .before .before in
+    let s = c .before .before .before .before .before .before .before .before .before .before in
     omega (arith, s .pre .few, in-limits (s .args .size) (s .pre .step .inputs .size) .few-columns)
 
 sub-add-4 : tie.Need-sub-add-4
@@ -144,9 +143,6 @@ same-length c =
 same-length-2 : tie.Need-same-length-2
 same-length-2 c = search needs
 
-same-length-3 : tie.Need-same-length-3
-same-length-3 c = search needs
-
 returns : tie.Need-returns
 returns c =
     let s = start c in
@@ -159,7 +155,7 @@ edge-spec =
     (tie.spec
     sub-n
     depth-requires
-    change-requires
+    gain-requires
     mul-add
     sub-add
     part-add-start
@@ -180,5 +176,4 @@ edge-spec =
     add-requires-2
     same-length
     same-length-2
-    same-length-3
     returns)

@@ -15,12 +15,11 @@ use Rattle.rows.proofs.slanted.next.Statement.{statement}
 use Rattle.rows.proofs.slanted.next.Tie as tie
 
 abbrev Inv-loop : tie.InvT-loop
-Inv-loop size f g window shift plane i work₀ change₀ leave₀ columns end c₀ work change leave c =
-    (1 ≤ c) × (c ≤ end) × (length change ≡ size .columns) × (length leave ≡ size .columns)
-    × (work ≡ later size (planeAt (source size f g shift plane)) (shapeOf window) i work₀ work₀ (c - 1))
+Inv-loop size f g window shift plane i work₀ row₀ columns end c₀ work row c =
+    (1 ≤ c) × (c ≤ end) × (length row ≡ size .columns) × (work ≡ later size (planeAt (source size f g shift plane)) (shapeOf window) i work₀ work₀ (c - 1))
 
 abbrev μ-loop : tie.MeasureT-loop
-μ-loop size f g window shift plane i work₀ change₀ leave₀ columns end c₀ work change leave c = end - c
+μ-loop size f g window shift plane i work₀ row₀ columns end c₀ work row c = end - c
 
 abbrev plane : tie.Start Inv-loop μ-loop → ℕ → ℕ → ℤ
 plane s = planeAt (source (s .args .size) (s .args .f .now) (s .args .g .now) (s .args .shift) (s .args .plane))
@@ -34,58 +33,51 @@ high-requires c κs = omega (arith, in-limits (c .before .args .size) (c .before
 depth-requires : tie.Need-depth-requires Inv-loop μ-loop
 depth-requires c κs = search needs
 
-change-requires : tie.Need-change-requires Inv-loop μ-loop
-change-requires c κs =
-    let s = c .before .before .before .before .before in
+add-gain-requires : tie.Need-add-gain-requires Inv-loop μ-loop
+add-gain-requires c κs =
+    let s = c .before .before .before .before in
     let x = s .pre .inputs in
     record {
       size = x .size;
       length-f = x .length-f;
       length-g = x .length-g;
       row = omega (arith, s .pre .row, in-limits (s .args .size) (x .size) .few-rows);
-      distance = omega (arith, c .before .before .depth .ensures, depth-small (s .args .window) (x .window) 0);
-      room = s .pre .room;
-      room-leave = s .pre .room-leave;
+      distance = omega (arith, c .before .depth .ensures, depth-small (s .args .window) (x .window) 0);
+      room = s .pre .room-work;
     }
 
-add-requires : tie.Need-add-requires Inv-loop μ-loop
-add-requires c κs =
-    let s = c .before .before .before .before .before .before .before .before .before .before in
-    c .before .before .before .before .change .kept .1 .1 .1 .1 .1 .1 .1 .0 ∙ s .pre .room ∙ sym (s .pre .room-work)
-
 -- before the loop the columns at distance 0 are added
-begun : (c : tie.After-work Inv-loop μ-loop) →
-    c .before .add .last .0 ≡ edgesTo (c .before .before .before .before .before .before .before .before .before .before .before .before .args .size) (plane (c .before .before .before .before .before .before .before .before .before .before .before .before)) (shapeOf (c .before .before .before .before .before .before .before .before .before .before .before .before .args .window)) (c .before .before .before .before .before .before .before .before .before .before .before .before .args .i) (c .before .before .before .before .before .before .before .before .before .before .before .before .args .work .now) 1
-begun c =
-    let s = c .before .before .before .before .before .before .before .before .before .before .before .before in
-    edges-1 (s .args .size) (plane s) (shapeOf (s .args .window)) (s .args .i) (s .args .work .now) _ (c .before .before .before .before .before .before .before .before .before .depth .result) _ _ (s .pre .room-work) (c .before .before .before .before .before .before .before .before .before .depth .ensures) (c .before .before .before .before .before .before .change .ensures) (c .before .add .ensures)
+module _ (c : tie.After-work Inv-loop μ-loop) where
+  abbrev start : tie.Start Inv-loop μ-loop
+  start = c .before .before .before .before .before .before
+
+  begun : c .before .add-gain .last .1 .1 .1 .1 .1 .1 .1 .0 ≡ edgesTo (start .args .size) (plane start) (shapeOf (start .args .window)) (start .args .i) (start .args .work .now) 1
+  begun = edges-1 (start .args .size) (plane start) (shapeOf (start .args .window)) (start .args .i) (start .args .work .now) (c .before .before .before .depth .result) _ (c .before .before .before .depth .ensures) (c .before .add-gain .ensures)
 
 loop-holds : tie.Need-loop-holds Inv-loop μ-loop
 loop-holds c =
-    let s = c .before .before .before .before .before .before .before .before .before .before .before .before in (
+    let s = start c in (
       omega arith,
-      omega (arith, c .before .before .before .before .before .before .before .before .before .before .high .ensures, in-limits (s .args .size) (s .pre .inputs .size) .some-columns),
-      c .before .before .before .before .before .before .change .kept .1 .1 .1 .1 .1 .1 .1 .0 ∙ s .pre .room,
-      c .before .before .before .before .before .before .change .kept .1 .1 .1 .1 .1 .1 .1 .1 .0 ∙ s .pre .room-leave,
-      later-none (s .args .size) (plane s) (shapeOf (s .args .window)) (s .args .i) (s .args .work .now) (c .before .add .last .0) (begun c),
+      omega (arith, c .before .before .before .before .high .ensures, in-limits (s .args .size) (s .pre .inputs .size) .some-columns),
+      s .pre .room,
+      later-none (s .args .size) (plane s) (shapeOf (s .args .window)) (s .args .i) (s .args .work .now) _ (begun c),
     )
 
 edge-requires : tie.Need-edge-requires Inv-loop μ-loop
 edge-requires c κs =
-    let s = c .before .before .before .before .before .before .before .before .before .before .before .before .before .before .before .before .before in
-    let l = c .before .before .before .before .loop in
-    let start = c .before .before .before .before .before .before .add .last .0 in
+    let s = start (c .before .before .before .before) in
+    let l = c .before .before .before .loop in
+    let first = c .before .before .before .before .before .add-gain .last .1 .1 .1 .1 .1 .1 .1 .0 in
     record {
       step = record {
         inputs = s .pre .inputs;
         row = s .pre .row;
-        room-work = later-length (s .args .size) (plane s) (shapeOf (s .args .window)) (s .args .i) (s .args .work .now) start (l .c - 1) _ (l .inv .4);
+        room-work = later-length (s .args .size) (plane s) (shapeOf (s .args .window)) (s .args .i) (s .args .work .now) first (l .c - 1) _ (l .inv .3);
         room = l .inv .2;
-        room-leave = l .inv .3;
       };
       some = l .inv .0;
-      few = omega (arith, c .before .before .before .loop-test .taken, c .before .before .before .before .before .before .before .before .before .before .before .before .before .before .before .high .ensures);
-      wrapped = later-wrapped (s .args .size) (plane s) (shapeOf (s .args .window)) (s .args .i) (s .args .work .now) start (l .c - 1) _ (l .inv .4);
+      few = omega (arith, c .before .before .loop-test .taken, c .before .before .before .before .before .before .before .before .high .ensures);
+      wrapped = later-wrapped (s .args .size) (plane s) (shapeOf (s .args .window)) (s .args .i) (s .args .work .now) first (l .c - 1) _ (l .inv .3);
     }
 
 add-c : tie.Need-add-c Inv-loop μ-loop
@@ -96,35 +88,31 @@ loop-less c = search needs
 
 loop-again : tie.Need-loop-again Inv-loop μ-loop
 loop-again c =
-    let s = c .before .before .before .before .before .before .before .before .before .before .before .before .before .before .before .before .before .before .before .before .before in
-    let l = c .before .before .before .before .before .before .before .before .loop in
-    let call = c .before .before .before .edge in (
+    let s = start (c .before .before .before .before .before .before .before) in
+    let l = c .before .before .before .before .before .before .loop in
+    let call = c .before .before .edge in (
       omega arith,
-      omega (arith, c .before .before .before .before .before .before .before .loop-test .taken),
+      omega (arith, c .before .before .before .before .before .loop-test .taken),
       call .kept .1 .1 .1 .1 .1 .1 .1 .1 .1 .0 ∙ l .inv .2,
-      call .kept .1 .1 .1 .1 .1 .1 .1 .1 .1 .1 .0 ∙ l .inv .3,
-      later-more (s .args .size) (plane s) (shapeOf (s .args .window)) (s .args .i) (s .args .work .now) (c .before .before .before .before .before .before .before .before .before .before .add .last .0) (l .c) _ _ (l .inv .0) (l .inv .4) (call .ensures),
+      later-more (s .args .size) (plane s) (shapeOf (s .args .window)) (s .args .i) (s .args .work .now) (c .before .before .before .before .before .before .before .before .add-gain .last .1 .1 .1 .1 .1 .1 .1 .0) (l .c) _ _ (l .inv .0) (l .inv .3) (call .ensures),
     )
 
 same-length : tie.Need-same-length Inv-loop μ-loop
 same-length c =
-    let s = c .before .before .before .before .before .before .before .before .before .before .before .before .before .before in
-    later-length (s .args .size) (plane s) (shapeOf (s .args .window)) (s .args .i) (s .args .work .now) (c .before .before .before .add .last .0) (c .before .loop .c - 1) _ (c .before .loop .inv .4) ∙ sym (s .pre .room-work)
+    let s = start (c .before .before) in
+    later-length (s .args .size) (plane s) (shapeOf (s .args .window)) (s .args .i) (s .args .work .now) (c .before .before .before .add-gain .last .1 .1 .1 .1 .1 .1 .1 .0) (c .before .loop .c - 1) _ (c .before .loop .inv .3) ∙ sym (s .pre .room-work)
 
 same-length-2 : tie.Need-same-length-2 Inv-loop μ-loop
-same-length-2 c = c .before .loop .inv .2 ∙ sym (c .before .before .before .before .before .before .before .before .before .before .before .before .before .before .pre .room)
-
-same-length-3 : tie.Need-same-length-3 Inv-loop μ-loop
-same-length-3 c = c .before .loop .inv .3 ∙ sym (c .before .before .before .before .before .before .before .before .before .before .before .before .before .before .pre .room-leave)
+same-length-2 c = c .before .loop .inv .2 ∙ sym (start (c .before .before) .pre .room)
 
 returns : tie.Need-returns Inv-loop μ-loop
 returns c =
-    let s = c .before .before .before .before .before .before .before .before .before .before .before .before .before .before in
+    let s = start (c .before .before) in
     let l = c .before .loop in
     let z = s .args .size in
-    let end : l .c ≡ min (suc (0 + width (shapeOf (s .args .window)))) (z .columns) = omega (arith, l .inv .1, c .loop-test .left) ∙ c .before .before .before .before .before .before .before .before .before .before .before .before .high .ensures ∙ ap (λ (w : ℕ). min (suc (0 + w)) (z .columns)) (c .before .before .before .before .before .before .before .before .before .before .before .before .before .width .ensures) in
+    let end : l .c ≡ min (suc (0 + width (shapeOf (s .args .window)))) (z .columns) = omega (arith, l .inv .1, c .loop-test .left) ∙ c .before .before .before .before .before .before .high .ensures ∙ ap (λ (w : ℕ). min (suc (0 + w)) (z .columns)) (c .before .before .before .before .before .before .before .width .ensures) in
     let same : suc (0 + width (shapeOf (s .args .window))) ≡ suc (width (shapeOf (s .args .window))) = omega arith in
-    later-all z (plane s) (shapeOf (s .args .window)) (s .args .i) (s .args .work .now) (c .before .before .before .add .last .0) (l .c) (l .work) (begun (c .before .before)) (l .inv .0) (l .inv .4)
+    later-all z (plane s) (shapeOf (s .args .window)) (s .args .i) (s .args .work .now) (c .before .before .before .add-gain .last .1 .1 .1 .1 .1 .1 .1 .0) (l .c) (l .work) (begun (c .before .before)) (l .inv .0) (l .inv .3)
     ∙ ap (edgesTo z (plane s) (shapeOf (s .args .window)) (s .args .i) (s .args .work .now)) (end ∙ ap (λ (m : ℕ). min m (z .columns)) same)
 
 pub next-spec : {M : Type 1} → statement M
@@ -136,8 +124,7 @@ next-spec =
     width-requires
     high-requires
     depth-requires
-    change-requires
-    add-requires
+    add-gain-requires
     loop-holds
     edge-requires
     add-c
@@ -145,5 +132,4 @@ next-spec =
     loop-again
     same-length
     same-length-2
-    same-length-3
     returns)

@@ -31,53 +31,42 @@ first-requires c κs = search needs
 same-length : tie.Need-same-length
 same-length c = search needs
 
-same-length-2 : tie.Need-same-length-2
-same-length-2 c = search needs
-
 returns : tie.Need-returns
 returns c =
-    let s = c .before .before .before .before .before .before .before .before .before in
+    let s = c .before .before .before .before .before .before .before in
     area-rectangle-first (s .args .size) (plane s) (s .args .work .now) _ (shapeOf (s .args .window)) (s .args .position) _
-    (sym (c .before .before .before .before .before .before .before .before .is-rectangle .ensures) ∙ c .before .before .before .before .before .before .before .if1 .taken) (c .before .before .before .before .before .before .height .ensures) (c .before .before .before .before .before .if2 .taken) (c .before .before .first .ensures)
+    (sym (c .before .before .before .before .before .before .is-rectangle .ensures) ∙ c .before .before .before .before .before .if1 .taken) (c .before .before .before .before .height .ensures) (c .before .before .before .if2 .taken) (c .before .first .ensures)
 
 sub-i : tie.Need-sub-i
 sub-i c = search needs
 
-next-requires : tie.Need-next-requires
-next-requires c κs =
-    let s = c .before .before .before .before .before .before .before in
+add-gain-requires : tie.Need-add-gain-requires
+add-gain-requires c κs =
+    let s = c .before .before .before .before .before in
     let x = s .pre .inputs in
     record {
       size = x .size;
       length-f = x .length-f;
       length-g = x .length-g;
-      half = omega (arith, c .before .before .before .before .height .ensures, height-small (s .args .window) (x .window));
       row = omega (arith, s .pre .row, in-limits (s .args .size) (x .size) .few-rows);
-      room-work = s .pre .room-work;
-      room-enter = s .pre .room-enter;
-      room-leave = s .pre .room-leave;
+      distance = omega (arith, c .before .before .height .ensures, height-small (s .args .window) (x .window));
+      room = s .pre .room-work;
     }
 
-same-length-3 : tie.Need-same-length-3
-same-length-3 c = search needs
-
-same-length-4 : tie.Need-same-length-4
-same-length-4 c = search needs
-
-same-length-5 : tie.Need-same-length-5
-same-length-5 c = search needs
+same-length-2 : tie.Need-same-length-2
+same-length-2 c = search needs
 
 returns-2 : tie.Need-returns-2
 returns-2 c =
-    let s = c .before .before .before .before .before .before .before .before .before .before .before in
+    let s = c .before .before .before .before .before .before .before in
     area-rectangle-next (s .args .size) (plane s) (s .args .work .now) _ (shapeOf (s .args .window)) (s .args .position) _
-    (sym (c .before .before .before .before .before .before .before .before .before .before .is-rectangle .ensures) ∙ c .before .before .before .before .before .before .before .before .before .if1 .taken) (c .before .before .before .before .before .before .before .before .height .ensures) (c .before .before .before .before .before .before .before .if2 .left) (c .before .before .before .next .ensures)
+    (sym (c .before .before .before .before .before .before .is-rectangle .ensures) ∙ c .before .before .before .before .before .if1 .taken) (c .before .before .before .before .height .ensures) (c .before .before .before .if2 .left) (c .before .add-gain .ensures)
 
 first-requires-2 : tie.Need-first-requires-2
 first-requires-2 c κs = search needs
 
-same-length-6 : tie.Need-same-length-6
-same-length-6 c = search needs
+same-length-3 : tie.Need-same-length-3
+same-length-3 c = search needs
 
 returns-3 : tie.Need-returns-3
 returns-3 c =
@@ -87,31 +76,20 @@ returns-3 c =
 sub-i-2 : tie.Need-sub-i-2
 sub-i-2 c = search needs
 
-next-requires-2 : tie.Need-next-requires-2
-next-requires-2 c κs =
-    let s = c .before .before .before .before .before .before in
-    record {
-      inputs = s .pre .inputs;
-      row = omega (arith, s .pre .row);
-      room-work = s .pre .room-work;
-      room = s .pre .room-enter;
-      room-leave = s .pre .room-leave;
-    }
+next-requires : tie.Need-next-requires
+next-requires c κs = search needs
 
-same-length-7 : tie.Need-same-length-7
-same-length-7 c = search needs
+same-length-4 : tie.Need-same-length-4
+same-length-4 c = search needs
 
-same-length-8 : tie.Need-same-length-8
-same-length-8 c = search needs
-
-same-length-9 : tie.Need-same-length-9
-same-length-9 c = search needs
+same-length-5 : tie.Need-same-length-5
+same-length-5 c = search needs
 
 returns-4 : tie.Need-returns-4
 returns-4 c =
-    let s = c .before .before .before .before .before .before .before .before .before .before in
+    let s = c .before .before .before .before .before .before .before .before in
     area-slanted-next (s .args .size) (plane s) (s .args .work .now) _ (shapeOf (s .args .window)) (s .args .position)
-    (sym (c .before .before .before .before .before .before .before .before .before .is-rectangle .ensures) ∙ c .before .before .before .before .before .before .before .before .if1 .left) (c .before .before .before .before .before .before .before .if3 .left) (c .before .before .before .next2 .ensures)
+    (sym (c .before .before .before .before .before .before .before .is-rectangle .ensures) ∙ c .before .before .before .before .before .before .if1 .left) (c .before .before .before .before .before .if3 .left) (c .before .before .next .ensures)
 
 pub area-spec : {M : Type 1} → statement M
 area-spec =
@@ -121,20 +99,16 @@ area-spec =
     height-requires
     first-requires
     same-length
-    same-length-2
     returns
     sub-i
-    next-requires
-    same-length-3
-    same-length-4
-    same-length-5
+    add-gain-requires
+    same-length-2
     returns-2
     first-requires-2
-    same-length-6
+    same-length-3
     returns-3
     sub-i-2
-    next-requires-2
-    same-length-7
-    same-length-8
-    same-length-9
+    next-requires
+    same-length-4
+    same-length-5
     returns-4)
