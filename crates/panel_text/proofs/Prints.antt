@@ -12,7 +12,7 @@ use Rattle.numbers.proofs.Lines.{line-end, line-next}
 use Rattle.numbers.proofs.Writes.{at, slice-at, slice-length}
 use Rattle.panel_text.specs.Text.{space, lineFeed, printed}
 use Rattle.panel_text.specs.Panel.{lineOf, linesOf}
-use Rattle.panel_text.specs.Print.{Written, valueAt, LineRoom, LineWritten, LinesRoom}
+use Rattle.panel_text.specs.Print.{Written, Fitted, valueAt, LineRoom, LineWritten, LinesRoom}
 use Rattle.panel_text.proofs.Bytes.{sets-append}
 
 -- ---- bytes of which some are still to write, from `place` on
@@ -175,5 +175,10 @@ module _ (rows columns : ℕ) (means : List ℤ) (old new : List ℕ) (place lo 
           rest = remaining-more _ _ _ _ _ _ (u .rest) _ _ _ _ (lines-more (valueAt columns means) i rows columns h) (subst (λ (l : List ℕ). Written l new place newer end) (row-is means lo i columns (u .row) row-part) (w .written));
         }
 
-  pub lines-done : rows ≤ i → Written (linesOf (valueAt columns means) 0 rows columns) old 0 new place
-  lines-done h = remaining-none _ _ _ _ _ _ (u .rest) (lines-none (valueAt columns means) i rows columns h)
+  pub lines-done : rows ≤ i → Fitted (linesOf (valueAt columns means) 0 rows columns) old 0 new place
+  lines-done h =
+      let e : i ≡ rows = omega (arith, u .inside) in
+      record {
+        written = remaining-none _ _ _ _ _ _ (u .rest) (lines-none (valueAt columns means) i rows columns h);
+        inside = omega (arith, u .room, u .row, ap (λ (n : ℕ). n * columns) e, asked .room);
+      }

@@ -6,7 +6,7 @@ ghost use lib.ListN.{length, getD};
 ghost use lib.IntN.{pos};
 ghost use Rattle.panel_text.specs.Text.{decimal, printed};
 ghost use Rattle.panel_text.specs.Panel.{lineOf, linesOf, refusedLine};
-ghost use Rattle.panel_text.specs.Print.{Written, LineRoom, LineWritten, LinesRoom, valueAt};
+ghost use Rattle.panel_text.specs.Print.{Written, Fitted, LineRoom, LineWritten, LinesRoom, valueAt};
 
 // The decimal digits of n.
 fn digits(n: u64, out: &mut [u8], at: usize) -> usize
@@ -63,7 +63,7 @@ fn line(row: &[i16], out: &mut [u8], at: usize) -> usize
 // "one line a row"
 pub fn lines(rows: usize, columns: usize, means: &[i16], out: &mut [u8]) -> usize
     requires { ⌜ LinesRoom rows columns (now means) (now out) ⌝ }
-    ensures { λ r. ⌜ Written (linesOf (valueAt columns (now (means .entry))) 0 rows columns) (now (out .entry)) 0 (now (out .exit)) r ⌝ }
+    ensures { λ r. ⌜ Fitted (linesOf (valueAt columns (now (means .entry))) 0 rows columns) (now (out .entry)) 0 (now (out .exit)) r ⌝ }
 {
     let mut at = 0;
     let mut lo = 0;
@@ -80,7 +80,7 @@ pub fn lines(rows: usize, columns: usize, means: &[i16], out: &mut [u8]) -> usiz
 // "the word, a space and the number", and a line feed.
 pub fn refused(n: u32, out: &mut [u8]) -> usize
     requires { ⌜ 19 ≤ length (now out) ⌝ }
-    ensures { λ r. ⌜ Written (refusedLine n) (now (out .entry)) 0 (now (out .exit)) r ⌝ }
+    ensures { λ r. ⌜ Fitted (refusedLine n) (now (out .entry)) 0 (now (out .exit)) r ⌝ }
 {
     out[0] = b'r';
     out[1] = b'e';

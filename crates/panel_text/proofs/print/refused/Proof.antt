@@ -57,7 +57,13 @@ same-length c =
     l ∙ d .digits .kept .1 .0 ∙ word-length (s .args .out .now)
 
 returns : tie.Need-returns
-returns c = refused-written _ _ _ _ (c .before .before .digits .ensures)
+returns c =
+    let d = c .before .before in
+    let s = d .before .before .before in
+    record {
+      written = refused-written _ _ _ _ (d .digits .ensures);
+      inside = omega (arith, s .pre, few-digits 9 (s .args .n) (omega (arith, s .fits .n)), d .digits .ensures .place);
+    }
 
 pub refused-spec : {M : Type 1} → statement M
 refused-spec =
