@@ -64,7 +64,7 @@ unfolding parsed sized filled framed levelsOf panelSize countOf number mapOption
 windows-last = (refl, refl, refl, refl, refl)
 
 -- "longer input, 10", whatever it holds
-longer : (text : List ℕ) → 65536 < length text → parsed text ≡ refused 10
+pub longer : (text : List ℕ) → 65536 < length text → parsed text ≡ refused 10
 unfolding parsed
 longer text h = go (ltb 65536 (length text)) (lt→ltb 65536 (length text) h)
   where

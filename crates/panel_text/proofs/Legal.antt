@@ -31,7 +31,7 @@ pub record Good (k : ℕ) (l : List ℤ) : Type 0 where
   pub full : length l ≡ k
   pub level : (i : ℕ) → mag (getD l i (pos 0)) < 2 ^ 15
 
-is-level : (n : ℤ) → T (isLevel n) → mag n < 2 ^ 15
+pub is-level : (n : ℤ) → T (isLevel n) → mag n < 2 ^ 15
 is-level (pos n) t = omega (arith, leb→le n 32767 (and-right (leZ (negsuc 32767) (pos n)) (leZ (pos n) (pos 32767)) t))
 is-level (negsuc n) t = omega (arith, leb→le n 32767 (and-left (leZ (negsuc 32767) (negsuc n)) (leZ (negsuc n) (pos 32767)) t))
 

@@ -1,34 +1,32 @@
 -- Of one picture every cell has a mean, and it is a level: the output picture's numbers are 16-bit.
 -- Assumes nothing.
 use mathlib.Core.Path.{_≡_, refl, sym, _∙_, ap, subst}
-use Prim.Native.Nat.{ℕ, zero, suc, _+_, _-_, _*_, _/_, _%_, _^_, _≤_, _<_}
+use Prim.Native.Nat.{ℕ, _+_, _*_, _^_, _<_}
 use native.Mathlib.Omega.{arith}
-use mathlib.Core.Bool.{Bool, true, false, _&&_}
+use mathlib.Core.Bool.{_&&_}
 use mathlib.Core.List.{List, [], _∷_}
 use mathlib.Core.Option.{none, some}
 use lib.Dec.{T, leb, ltb, lt→ltb, le→leb}
-use lib.ListN.{length, getD}
-use lib.IntN.{ℤ, pos, negsuc, natAbs, _+ℤ_, _*ℤ_, *ℤ-comm}
-use lib.Signed.{_≤ℤ_, _<ℤ_, mag, ≤ℤ-refl}
+use lib.ListN.{getD}
+use lib.IntN.{ℤ, pos, negsuc, natAbs, _*ℤ_, *ℤ-comm}
+use lib.Signed.{_≤ℤ_, mag, ≤ℤ-refl}
 use Rattle.numbers.specs.Sum.{sumTo, pick, dist}
-use Rattle.numbers.specs.Grid.{grid}
 use Rattle.numbers.specs.Round.{nearest}
-use Rattle.numbers.proofs.Integers.{up, dn, leℤ, ofLe, mul-law}
+use Rattle.numbers.proofs.Integers.{leℤ, ofLe}
 use Rattle.numbers.proofs.Laws.{≤ℤ-trans}
 use Rattle.numbers.proofs.Sums.{pick-yes}
 use Rattle.numbers.proofs.Tests.{and-both}
 use Rattle.numbers.proofs.SumOrders.{sum-le, sum-scale, sum-one, sum-nonneg, pick-le, pick-nonneg, pick-scale}
-use Rattle.numbers.proofs.Grids.{getD-grid, length-rows}
+use Rattle.numbers.proofs.Grids.{getD-grid}
 use Rattle.numbers.proofs.Rounds.{nearest-law, nearest-within}
 use Rattle.picture.specs.Refusal.{refused, answered, refusal, numbersOf}
 use Rattle.picture.proofs.Refusals.{filling-none, filling-some}
 use Rattle.picture.specs.declared.Size.{Size}
-use Rattle.picture.specs.Size.{size, sizeLegal, cells, rowGap, columnGap, inRange, inside}
+use Rattle.picture.specs.Size.{size, sizeLegal, inRange}
 use Rattle.picture.specs.declared.Window.{Window}
 use Rattle.picture.specs.Window.{window, rectangleLegal, windowLegal, Shape, shapeOf, height, reach, holds}
 use Rattle.picture.specs.Picture.{Levels, Inputs, counts, planeValue, planeAt, levelOf}
 use Rattle.picture.specs.Direct.{windowSum, directSum}
-use Rattle.statistics.specs.declared.Sums.{Sums}
 use Rattle.statistics.specs.SixSums.{sixSums, onPlane, count}
 use Rattle.statistics.specs.Moments.{mean}
 use Rattle.smoothing.specs.Smoothing.{alone, smoothed, smoothChecks, smoothCall}
@@ -127,10 +125,6 @@ module _ (z : Size) (f : List ℤ) (w : Window) where
 pub smoothed-at : (z : Size) (f : List ℤ) (w : Window) (i j : ℕ) → i < z .rows → j < z .columns → getD (smoothed z f w) (i * z .columns + j) (pos 0) ≡ mean (sixSums (alone z f w) i j)
 unfolding smoothed
 smoothed-at z f w i j hi hj = getD-grid (z .rows) (z .columns) i j (λ i j. mean (sixSums (alone z f w) i j)) (pos 0) hi hj
-
-pub length-smoothed : (z : Size) (f : List ℤ) (w : Window) → length (smoothed z f w) ≡ cells z
-unfolding smoothed
-length-smoothed z f w = length-rows 0 (z .rows) (z .columns) (λ i j. mean (sixSums (alone z f w) i j))
 
 -- a call that is taken writes the means; one that is refused keeps the output
 pub smooth-writes : (z : Size) (f : List ℤ) (w : Window) (output : List ℤ) → refusal (smoothChecks z f w output) ≡ none →

@@ -1,6 +1,5 @@
 -- "Smoothing takes one picture and a window, and writes the mean over the window at every cell to an output picture".
 -- Assumes nothing.
-use Prim.Native.Nat.{ℕ}
 use mathlib.Core.List.{List, [], _∷_}
 use lib.ListN.{length}
 use lib.IntN.{ℤ}

@@ -1,6 +1,6 @@
 -- "The steady search takes two pictures, a window and a shift, and gives the first cell in row order whose voice answer is Steady, or None".
 -- Assumes nothing.
-use Prim.Native.Nat.{ℕ, zero, suc, _/_, _%_}
+use Prim.Native.Nat.{ℕ, zero, suc}
 use mathlib.Core.Bool.{Bool, true, false}
 use mathlib.Core.List.{List, [], _∷_, _++_}
 use mathlib.Core.Option.{Option, none, some}

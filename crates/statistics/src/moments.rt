@@ -17,7 +17,7 @@ use super::central::central_moments;
 
 // The whole number nearest to x / d, a half going up: (2x + d) / 2d, rounded down. Division is toward zero, so it is one too large where the
 // remainder is negative.
-fn nearest(x: i64, d: u64) -> i64
+pub fn nearest(x: i64, d: u64) -> i64
     requires { ⌜ Quotient x d ⌝ }
     ensures { λ r. ⌜ r ≡ nearest x d ⌝ }
 {

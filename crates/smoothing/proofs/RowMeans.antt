@@ -1,0 +1,72 @@
+-- The means of a row from its rows of N and S, and the picture with the row put in place.
+-- Assumes nothing.
+use mathlib.Core.Path.{_≡_, _∙_, ap, ap₂}
+use Prim.Native.Nat.{ℕ, _+_, _-_, _*_, _≤_, _<_}
+use native.Mathlib.Omega.{arith}
+use mathlib.Core.List.{List}
+use lib.ListN.{length}
+use lib.IntN.{ℤ, pos, natAbs}
+use borrow.Rule.Slice.PartMut.{putMid}
+use Rattle.numbers.specs.Grid.{tabulate}
+use Rattle.numbers.specs.Round.{nearest}
+use Rattle.numbers.proofs.Grids.{getD-tabulate}
+use Rattle.numbers.proofs.Lines.{tabulated-length, Lines, lines-next}
+use Rattle.numbers.proofs.Writes.{at, part-before, part-within}
+use Rattle.picture.specs.declared.Size.{Size}
+use Rattle.picture.specs.declared.Window.{Window}
+use Rattle.picture.specs.Picture.{Inputs}
+use Rattle.picture.specs.Direct.{directSum}
+use Rattle.rows.specs.Asked.{Checked}
+use Rattle.statistics.specs.SixSums.{onPlane, sixSums}
+use Rattle.statistics.specs.Moments.{mean}
+use Rattle.statistics.proofs.Possible.{sums-fair, count-bound}
+use Rattle.smoothing.specs.Smoothing.{alone}
+use Rattle.smoothing.specs.Inner.{LevelMean, MeansAsked, meansOf}
+use Rattle.smoothing.proofs.Means.{counted, mean-level}
+
+-- a row put in place behind the rows before it
+pub put-line : (f : ℕ → ℕ → ℤ) (c i lo : ℕ) (l part : List ℤ) → Lines f c l i → lo ≡ i * c → lo + c ≤ length l → length part ≡ c →
+    ((j : ℕ) → j < c → at part j ≡ f i j) → Lines f c (putMid lo (lo + c - lo) l part) (i + 1)
+put-line f c i lo l part u start room e row =
+    let span : length part ≡ lo + c - lo = omega arith in
+    lines-next f c l (putMid lo (lo + c - lo) l part) i lo u start
+    (λ k h. part-before lo (lo + c) l part (omega arith) room span k h)
+    (λ j h.
+    let back : lo + j - lo ≡ j = omega arith in
+    part-within lo (lo + c) l part (omega arith) room span (lo + j) (omega arith) (omega arith) ∙ ap (at part) back ∙ row j h)
+
+module _ (z : Size) (f : List ℤ) (w : Window) (c : Checked (alone z f w)) (i : ℕ) (below : i < z .rows) where
+  abbrev x : Inputs
+  x = alone z f w
+
+  cell-mean : (j : ℕ) → j < z .columns → LevelMean (directSum (onPlane x 0) i j) (directSum (onPlane x 1) i j)
+  unfolding mean
+  cell-mean j h =
+      let few = count-bound x (c .levels-f) (c .levels-g) i j (c .window) in
+      record {
+        some = counted z f w i j below h;
+        few = few;
+        small = omega (arith, few, sums-fair x (c .levels-f) (c .levels-g) i j .first);
+        level = mean-level z f w (c .levels-f) i j below h;
+      }
+
+  module _ (n s out : List ℤ) (n-is : n ≡ tabulate (z .columns) (directSum (onPlane x 0) i)) (s-is : s ≡ tabulate (z .columns) (directSum (onPlane x 1) i)) (room : length out ≡ z .columns) where
+    at-n : (j : ℕ) → j < z .columns → at n j ≡ directSum (onPlane x 0) i j
+    at-n j h = ap (λ (l : List ℤ). at l j) n-is ∙ getD-tabulate (z .columns) j (directSum (onPlane x 0) i) (pos 0) h
+
+    at-s : (j : ℕ) → j < z .columns → at s j ≡ directSum (onPlane x 1) i j
+    at-s j h = ap (λ (l : List ℤ). at l j) s-is ∙ getD-tabulate (z .columns) j (directSum (onPlane x 1) i) (pos 0) h
+
+    pub row-asked : MeansAsked n s out
+    row-asked = record {
+      length-n = tabulated-length n (z .columns) (directSum (onPlane x 0) i) n-is ∙ omega arith;
+      length-s = tabulated-length s (z .columns) (directSum (onPlane x 1) i) s-is ∙ omega arith;
+      each = λ j h. let l : j < z .columns = omega arith in rw (at-n j l, at-s j l) (cell-mean j l);
+    }
+
+    pub row-mean : (part : List ℤ) → part ≡ meansOf n s out → (j : ℕ) → j < z .columns → at part j ≡ mean (sixSums x i j)
+    unfolding meansOf mean
+    row-mean part e j h =
+        ap (λ (l : List ℤ). at l j) e
+        ∙ getD-tabulate (length out) j (λ k. nearest (at s k) (natAbs (at n k))) (pos 0) (omega arith)
+        ∙ ap₂ (λ (a b : ℤ). nearest a (natAbs b)) (at-s j h) (at-n j h)

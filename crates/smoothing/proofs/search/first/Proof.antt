@@ -1,0 +1,366 @@
+-- `smoothing::search::first` meets its contract. No cell before row i is steady, and none of row i before column j: the search from there on gives
+-- what the whole search gives. Assumes nothing.
+use borrow.Author.Needs.{needs}
+use mathlib.Core.Path.{_≡_, refl, sym, ap, _∙_, subst}
+use mathlib.Core.Bool.{false}
+use mathlib.Core.Option.{none, some}
+use mathlib.Core.List.{List, [], _∷_}
+use mathlib.Core.Logic.{⊎-elim}
+use Prim.Native.Nat.{ℕ, _-_, _≤_, _<_}
+use native.Mathlib.Omega.{arith}
+use native.Mathlib.Numerals.{add-one}
+use lib.ListN.{length}
+use lib.IntN.{ℤ}
+use mir.Facts.{toZ-ofZ}
+use mir.Syntax.{w64}
+use mir.Val.{SFits}
+use types.Run.{OneOf, miss}
+use denote.Enum.Declared.{tagOf}
+use Rattle.numbers.proofs.Writes.{at}
+use Rattle.picture.specs.Refusal.{answered}
+use Rattle.picture.specs.Size.{cell}
+use Rattle.picture.specs.Picture.{Inputs, inputs}
+use Rattle.picture.proofs.Refusals.{in-limits}
+use Rattle.statistics.specs.Answers.{voiceOf}
+use Rattle.statistics.specs.declared.Voice.{Voice}
+use Rattle.statistics.specs.declared.Voice.the-variants.{Empty, Steady, Grainy}
+use Rattle.statistics.specs.SixSums.{onPlane}
+use Rattle.statistics.proofs.Voice.{the-type}
+use Rattle.smoothing.specs.Steady.{isSteady, findColumn, findCell, firstSteady}
+use Rattle.smoothing.specs.Inner.{ready}
+use Rattle.smoothing.proofs.RowSums.{on-plane}
+use Rattle.smoothing.proofs.Voices.{row-possible, row-voice}
+use Rattle.smoothing.proofs.Searching.{steadyAt, whole-row, whole-search, column-passed, column-found, no-column, row-passed, row-found, no-row}
+use Rattle.smoothing.proofs.search.first.Statement.{statement}
+use Rattle.smoothing.proofs.search.first.Tie as tie
+
+abbrev Inv-loop : tie.InvT-loop
+Inv-loop size f g window shift counts totals squares n s a rows columns i j₀ j =
+    let test = steadyAt (inputs size f g window shift 0) i in
+    (j ≤ columns) × (findColumn test j (columns - j) ≡ findColumn test 0 columns)
+
+abbrev μ-loop : tie.MeasureT-loop
+μ-loop size f g window shift counts totals squares n s a rows columns i j₀ j = columns - j
+
+abbrev Inv-search : tie.InvT-search
+Inv-search size f g window shift counts₀ totals₀ squares₀ n₀ s₀ a₀ rows columns i₀ j₀ counts totals squares n s a i j =
+    let x = inputs size f g window shift 0 in
+    (i ≤ rows) × (length counts ≡ columns) × (length totals ≡ columns) × (length squares ≡ columns) × (length n ≡ columns) × (length s ≡ columns) × (length a ≡ columns)
+    × ready (onPlane x 0) i counts × ready (onPlane x 1) i totals × ready (onPlane x 3) i squares
+    × (findCell (steadyAt x) columns i (rows - i) ≡ firstSteady x)
+
+abbrev μ-search : tie.MeasureT-search
+μ-search size f g window shift counts₀ totals₀ squares₀ n₀ s₀ a₀ rows columns i₀ j₀ counts totals squares n s a i j = rows - i
+
+abbrev given : tie.Start Inv-loop μ-loop Inv-search μ-search → Inputs
+given s = inputs (s .args .size) (s .args .f .now) (s .args .g .now) (s .args .window) (s .args .shift) 0
+
+-- the turn whose three rows of sums are there
+abbrev turn : tie.After-a Inv-loop μ-loop Inv-search μ-search → tie.In-search Inv-loop μ-loop Inv-search μ-search
+turn r = r .before .before .before .before .before .before .before .before .before .before .before .before .before .before .before
+
+-- a column is one of at most 1,024
+narrow : (c : tie.In-loop Inv-loop μ-loop Inv-search μ-search) → c .before .loop .j < 1024
+narrow c =
+    let s = turn (c .before .before) .before .before in
+    omega (arith, c .loop-test .taken, in-limits (s .args .size) (s .pre .inputs .size) .few-columns)
+
+search-holds : tie.Need-search-holds Inv-loop μ-loop Inv-search μ-search
+search-holds c = (
+  omega arith,
+  c .pre .room-counts,
+  c .pre .room-totals,
+  c .pre .room-squares,
+  c .pre .room-n,
+  c .pre .room-s,
+  c .pre .room-a,
+  tt,
+  tt,
+  tt,
+  whole-search (given c),
+)
+
+next-requires : tie.Need-next-requires Inv-loop μ-loop Inv-search μ-search
+next-requires c κs =
+    let s = c .before .before .before .before in
+    let l = c .before .before .before .search in
+    record {
+      inputs = on-plane (given s) 0 (s .pre .inputs);
+      row = c .before .before .search-test .taken;
+      left = l .inv .7;
+      room-work = l .inv .1;
+      room = l .inv .4;
+    }
+
+next-requires-2 : tie.Need-next-requires-2 Inv-loop μ-loop Inv-search μ-search
+next-requires-2 c κs =
+    let s = c .before .before .before .before .before .before .before .before .before in
+    let l = c .before .before .before .before .before .before .before .before .search in
+    record {
+      inputs = on-plane (given s) 1 (s .pre .inputs);
+      row = c .before .before .before .before .before .before .before .search-test .taken;
+      left = l .inv .8;
+      room-work = l .inv .2;
+      room = l .inv .5;
+    }
+
+next-requires-3 : tie.Need-next-requires-3 Inv-loop μ-loop Inv-search μ-search
+next-requires-3 c κs =
+    let s = c .before .before .before .before .before .before .before .before .before .before .before .before .before .before in
+    let l = c .before .before .before .before .before .before .before .before .before .before .before .before .before .search in
+    record {
+      inputs = on-plane (given s) 3 (s .pre .inputs);
+      row = c .before .before .before .before .before .before .before .before .before .before .before .before .search-test .taken;
+      left = l .inv .9;
+      room-work = l .inv .3;
+      room = l .inv .6;
+    }
+
+loop-holds : tie.Need-loop-holds Inv-loop μ-loop Inv-search μ-search
+loop-holds c =
+    let t = turn c in
+    (omega arith, whole-row (steadyAt (given (t .before .before)) (t .before .search .i)) (t .before .before .args .size .columns))
+
+mul-heard : tie.Need-mul-heard Inv-loop μ-loop Inv-search μ-search
+mul-heard c = omega (arith, narrow (c))
+
+slice-copy-out-heard : tie.Need-slice-copy-out-heard Inv-loop μ-loop Inv-search μ-search
+slice-copy-out-heard c =
+    let r = c .before .before in
+    omega (arith, r .before .before .before .before .before .before .before .before .before .before .before .before .next .kept .1 .1 .1 .1 .1 .1 .1 .1 .0, turn r .before .search .inv .4, c .loop-test .taken)
+
+mul-heard-2 : tie.Need-mul-heard-2 Inv-loop μ-loop Inv-search μ-search
+mul-heard-2 c = omega (arith, narrow (c .before))
+
+slice-copy-out-heard-2 : tie.Need-slice-copy-out-heard-2 Inv-loop μ-loop Inv-search μ-search
+slice-copy-out-heard-2 c =
+    let r = c .before .before .before in
+    omega (arith, r .before .before .before .before .before .before .before .next2 .kept .1 .1 .1 .1 .1 .1 .1 .1 .0, turn r .before .search .inv .5, c .before .loop-test .taken)
+
+mul-heard-3 : tie.Need-mul-heard-3 Inv-loop μ-loop Inv-search μ-search
+mul-heard-3 c = omega (arith, narrow (c .before .before))
+
+slice-copy-out-heard-3 : tie.Need-slice-copy-out-heard-3 Inv-loop μ-loop Inv-search μ-search
+slice-copy-out-heard-3 c =
+    let r = c .before .before .before .before in
+    omega (arith, r .before .before .next3 .kept .1 .1 .1 .1 .1 .1 .1 .1 .0, turn r .before .search .inv .6, c .before .before .loop-test .taken)
+
+-- the three numbers that are read
+abbrev column : tie.After-heard-arg3 Inv-loop μ-loop Inv-search μ-search → ℕ
+column c = c .before .before .before .before .loop .j
+
+fits-n : (c : tie.After-heard-arg3 Inv-loop μ-loop Inv-search μ-search) → SFits w64 (at (c .before .before .before .before .before .before .before .before .before .before .before .before .before .before .before .before .before .next .last .1 .1 .1 .1 .1 .1 .1 .1 .0) (column c))
+fits-n c = record { sfits = c .before .before .heard-arg .given }
+
+fits-s : (c : tie.After-heard-arg3 Inv-loop μ-loop Inv-search μ-search) → SFits w64 (at (c .before .before .before .before .before .before .before .before .before .before .before .before .next2 .last .1 .1 .1 .1 .1 .1 .1 .1 .0) (column c))
+fits-s c = record { sfits = c .before .heard-arg2 .given }
+
+fits-a : (c : tie.After-heard-arg3 Inv-loop μ-loop Inv-search μ-search) → SFits w64 (at (c .before .before .before .before .before .before .before .next3 .last .1 .1 .1 .1 .1 .1 .1 .1 .0) (column c))
+fits-a c = record { sfits = c .heard-arg3 .given }
+
+heard-requires : tie.Need-heard-requires Inv-loop μ-loop Inv-search μ-search
+heard-requires c κs =
+    let r = c .before .before .before .before .before in
+    let t = turn r in
+    let s = t .before .before in
+    let j = c .before .before .before .before .loop .j in
+    simp (toZ-ofZ, fits-n c, fits-s c, fits-a c)
+    (row-possible (given s) (s .pre .inputs) (t .before .search .i) j _ _ _ (c .before .before .before .loop-test .taken) (r .before .before .before .before .before .before .before .before .before .before .before .before .next .ensures .sums) (r .before .before .before .before .before .before .before .next2 .ensures .sums) (r .before .before .next3 .ensures .sums))
+
+-- what was heard is the cell's voice
+cell-steady : (c : tie.After-heard Inv-loop μ-loop Inv-search μ-search) → steadyAt (given (turn (c .before .before .before .before .before .before) .before .before)) (turn (c .before .before .before .before .before .before) .before .search .i) (column (c .before)) ≡ isSteady (voiceOf (c .heard .result))
+cell-steady c =
+    let r = c .before .before .before .before .before .before in
+    let t = turn r in
+    let s = t .before .before in
+    let j = column (c .before) in
+    ap isSteady
+    (sym (row-voice (given s) (s .pre .inputs) (t .before .search .i) j _ _ _ (c .before .before .before .before .loop-test .taken) (r .before .before .before .before .before .before .before .before .before .before .before .before .next .ensures .sums) (r .before .before .before .before .before .before .before .next2 .ensures .sums) (r .before .before .next3 .ensures .sums))
+    ∙ sym (simp (toZ-ofZ, fits-n (c .before), fits-s (c .before), fits-a (c .before)) at (c .heard .ensures)))
+
+-- a voice that is passed over
+passed : (v : Voice) → OneOf (0 ∷ 2 ∷ []) (tagOf the-type v) → isSteady (voiceOf v) ≡ false
+passed Empty m = refl
+passed (Grainy grain) m = refl
+passed (Steady level) m = absurd (miss (0 ∷ 2 ∷ []) 1 tt m)
+
+enum-told : tie.Need-enum-told Inv-loop μ-loop Inv-search μ-search
+enum-told c = search needs
+
+add-j : tie.Need-add-j Inv-loop μ-loop Inv-search μ-search
+add-j c = omega (arith, narrow (c .before .before .before .before .before))
+
+loop-less : tie.Need-loop-less Inv-loop μ-loop Inv-search μ-search
+loop-less c = omega (arith, c .before .before .before .before .before .loop-test .taken)
+
+loop-again : tie.Need-loop-again Inv-loop μ-loop Inv-search μ-search
+loop-again c =
+    let h = c .before in
+    let t = turn (h .before .before .before .before .before .before) in
+    let s = t .before .before in
+    let l = h .before .before .before .before .before .loop in
+    let z = s .args .size in
+    let below = h .before .before .before .before .loop-test .taken in
+    let test = steadyAt (given s) (t .before .search .i) in
+    (omega (arith, below), sym (column-passed test (l .j) (z .columns) below (cell-steady h ∙ passed (h .heard .result) (c .match .keys2))) ∙ l .inv .1)
+
+add-i : tie.Need-add-i Inv-loop μ-loop Inv-search μ-search
+add-i c =
+    let t = turn (c .before .before) in
+    omega (arith, t .search-test .taken, in-limits (t .before .before .args .size) (t .before .before .pre .inputs .size) .few-rows)
+
+search-less : tie.Need-search-less Inv-loop μ-loop Inv-search μ-search
+search-less c = omega (arith, turn (c .before .before) .search-test .taken)
+
+search-again : tie.Need-search-again Inv-loop μ-loop Inv-search μ-search
+search-again c =
+    let r = c .before .before in
+    let t = turn r in
+    let s = t .before .before in
+    let l = t .before .search in
+    let z = s .args .size in
+    let counted = r .before .before .before .before .before .before .before .before .before .before .before .before .next in
+    let summed = r .before .before .before .before .before .before .before .next2 in
+    let squared = r .before .before .next3 in
+    let i = l .i in (
+      omega (arith, t .search-test .taken),
+      counted .kept .1 .1 .1 .1 .1 .1 .1 .0 ∙ l .inv .1,
+      summed .kept .1 .1 .1 .1 .1 .1 .1 .0 ∙ l .inv .2,
+      squared .kept .1 .1 .1 .1 .1 .1 .1 .0 ∙ l .inv .3,
+      counted .kept .1 .1 .1 .1 .1 .1 .1 .1 .0 ∙ l .inv .4,
+      summed .kept .1 .1 .1 .1 .1 .1 .1 .1 .0 ∙ l .inv .5,
+      squared .kept .1 .1 .1 .1 .1 .1 .1 .1 .0 ∙ l .inv .6,
+      subst (λ (k : ℕ). ready (onPlane (given s) 0) k (counted .last .1 .1 .1 .1 .1 .1 .1 .0)) (sym (add-one i)) (counted .ensures .left),
+      subst (λ (k : ℕ). ready (onPlane (given s) 1) k (summed .last .1 .1 .1 .1 .1 .1 .1 .0)) (sym (add-one i)) (summed .ensures .left),
+      subst (λ (k : ℕ). ready (onPlane (given s) 3) k (squared .last .1 .1 .1 .1 .1 .1 .1 .0)) (sym (add-one i)) (squared .ensures .left),
+      sym (row-passed (steadyAt (given s)) (z .columns) i (z .rows) (t .search-test .taken) (sym (c .before .loop .inv .1) ∙ no-column (steadyAt (given s) i) (c .before .loop .j) (z .columns) (c .loop-test .left))) ∙ l .inv .10,
+    )
+
+-- where the search is left: the room is as long as it was, and row i and column j tell the answer
+record Left (x : Inputs) (counts totals squares n s a : List ℤ) (i j : ℕ) : Type 0 where
+  room-counts : length counts ≡ x .source .size .columns
+  room-totals : length totals ≡ x .source .size .columns
+  room-squares : length squares ≡ x .source .size .columns
+  room-n : length n ≡ x .source .size .columns
+  room-s : length s ≡ x .source .size .columns
+  room-a : length a ≡ x .source .size .columns
+  found : i < x .source .size .rows → some (cell i j) ≡ firstSteady x
+  nowhere : x .source .size .rows ≤ i → none ≡ firstSteady x
+
+left : (c : tie.Left-search Inv-loop μ-loop Inv-search μ-search) → Left (given (c .before .before)) (c .search-test .counts) (c .search-test .totals) (c .search-test .squares) (c .search-test .n) (c .search-test .s) (c .search-test .a) (c .before .search .i) (c .search-test .j)
+left c =
+    let s = c .before .before in
+    let l = c .before .search in
+    let z = s .args .size in
+    let x = given s in
+    let i = l .i in
+    ⊎-elim
+    (λ w. record {
+      room-counts = ap length (w .1) ∙ l .inv .1;
+      room-totals = ap length (w .2) ∙ l .inv .2;
+      room-squares = ap length (w .3) ∙ l .inv .3;
+      room-n = ap length (w .4) ∙ l .inv .4;
+      room-s = ap length (w .5) ∙ l .inv .5;
+      room-a = ap length (w .6) ∙ l .inv .6;
+      found = λ h. absurd (omega (arith, h, w .0 .left));
+      nowhere = λ h. sym (no-row (steadyAt x) (z .columns) i (z .rows) h) ∙ l .inv .10;
+    })
+    (λ w.
+    let h : tie.After-heard Inv-loop μ-loop Inv-search μ-search = record { before = record { before = record { before = record { before = record { before = record { before = record { before = record { before = record { before = record { before = record { before = record { before = record { before = record { before = record { before = record { before = record { before = record { before = record { before = record { before = record { before = record { before = c .before; search-test = w .0 }; next-arg = w .1 }; next-arg2 = w .2 }; next = w .3 }; counts = w .4 }; n = w .5 }; next-arg3 = w .6 }; next-arg4 = w .7 }; next2 = w .8 }; totals = w .9 }; s = w .10 }; next-arg5 = w .11 }; next-arg6 = w .12 }; next3 = w .13 }; squares = w .14 }; a = w .15 }; loop = w .16 }; loop-test = w .17 }; heard-arg = w .18 }; heard-arg2 = w .19 }; heard-arg3 = w .20 }; heard = w .21 } in
+    let hit = column-found (steadyAt x i) (w .16 .j) (z .columns) (w .17 .taken) (cell-steady h ∙ ap (λ (v : Voice). isSteady (voiceOf v)) (w .23 .given .1)) in
+    let row = row-found (steadyAt x) (z .columns) i (z .rows) (w .16 .j) (w .0 .taken) (sym (w .16 .inv .1) ∙ hit) in
+    record {
+      room-counts = ap length (w .24) ∙ w .3 .kept .1 .1 .1 .1 .1 .1 .1 .0 ∙ l .inv .1;
+      room-totals = ap length (w .25) ∙ w .8 .kept .1 .1 .1 .1 .1 .1 .1 .0 ∙ l .inv .2;
+      room-squares = ap length (w .26) ∙ w .13 .kept .1 .1 .1 .1 .1 .1 .1 .0 ∙ l .inv .3;
+      room-n = ap length (w .27) ∙ w .3 .kept .1 .1 .1 .1 .1 .1 .1 .1 .0 ∙ l .inv .4;
+      room-s = ap length (w .28) ∙ w .8 .kept .1 .1 .1 .1 .1 .1 .1 .1 .0 ∙ l .inv .5;
+      room-a = ap length (w .29) ∙ w .13 .kept .1 .1 .1 .1 .1 .1 .1 .1 .0 ∙ l .inv .6;
+      found = λ h. ap (λ (j : ℕ). some (cell i j)) (w .30) ∙ sym row ∙ l .inv .10;
+      nowhere = λ h. absurd (omega (arith, h, w .0 .taken));
+    })
+    (c .search-test .came)
+
+same-length : tie.Need-same-length Inv-loop μ-loop Inv-search μ-search
+same-length c = left (c .before) .room-counts ∙ sym (c .before .before .before .pre .room-counts)
+
+same-length-2 : tie.Need-same-length-2 Inv-loop μ-loop Inv-search μ-search
+same-length-2 c = left (c .before) .room-totals ∙ sym (c .before .before .before .pre .room-totals)
+
+same-length-3 : tie.Need-same-length-3 Inv-loop μ-loop Inv-search μ-search
+same-length-3 c = left (c .before) .room-squares ∙ sym (c .before .before .before .pre .room-squares)
+
+same-length-4 : tie.Need-same-length-4 Inv-loop μ-loop Inv-search μ-search
+same-length-4 c = left (c .before) .room-n ∙ sym (c .before .before .before .pre .room-n)
+
+same-length-5 : tie.Need-same-length-5 Inv-loop μ-loop Inv-search μ-search
+same-length-5 c = left (c .before) .room-s ∙ sym (c .before .before .before .pre .room-s)
+
+same-length-6 : tie.Need-same-length-6 Inv-loop μ-loop Inv-search μ-search
+same-length-6 c = left (c .before) .room-a ∙ sym (c .before .before .before .pre .room-a)
+
+returns : tie.Need-returns Inv-loop μ-loop Inv-search μ-search
+returns c = ap answered (left (c .before) .found (c .if1 .taken))
+
+same-length-7 : tie.Need-same-length-7 Inv-loop μ-loop Inv-search μ-search
+same-length-7 c = left (c .before) .room-counts ∙ sym (c .before .before .before .pre .room-counts)
+
+same-length-8 : tie.Need-same-length-8 Inv-loop μ-loop Inv-search μ-search
+same-length-8 c = left (c .before) .room-totals ∙ sym (c .before .before .before .pre .room-totals)
+
+same-length-9 : tie.Need-same-length-9 Inv-loop μ-loop Inv-search μ-search
+same-length-9 c = left (c .before) .room-squares ∙ sym (c .before .before .before .pre .room-squares)
+
+same-length-10 : tie.Need-same-length-10 Inv-loop μ-loop Inv-search μ-search
+same-length-10 c = left (c .before) .room-n ∙ sym (c .before .before .before .pre .room-n)
+
+same-length-11 : tie.Need-same-length-11 Inv-loop μ-loop Inv-search μ-search
+same-length-11 c = left (c .before) .room-s ∙ sym (c .before .before .before .pre .room-s)
+
+same-length-12 : tie.Need-same-length-12 Inv-loop μ-loop Inv-search μ-search
+same-length-12 c = left (c .before) .room-a ∙ sym (c .before .before .before .pre .room-a)
+
+returns-2 : tie.Need-returns-2 Inv-loop μ-loop Inv-search μ-search
+returns-2 c = ap answered (left (c .before) .nowhere (c .if1 .left))
+
+pub first-spec : {M : Type 1} → statement M
+first-spec =
+    tie.close
+    (tie.spec
+    Inv-loop
+    μ-loop
+    Inv-search
+    μ-search
+    search-holds
+    next-requires
+    next-requires-2
+    next-requires-3
+    loop-holds
+    mul-heard
+    slice-copy-out-heard
+    mul-heard-2
+    slice-copy-out-heard-2
+    mul-heard-3
+    slice-copy-out-heard-3
+    heard-requires
+    enum-told
+    add-j
+    loop-less
+    loop-again
+    add-i
+    search-less
+    search-again
+    same-length
+    same-length-2
+    same-length-3
+    same-length-4
+    same-length-5
+    same-length-6
+    returns
+    same-length-7
+    same-length-8
+    same-length-9
+    same-length-10
+    same-length-11
+    same-length-12
+    returns-2)
