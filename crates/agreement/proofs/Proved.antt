@@ -22,8 +22,8 @@ use Rattle.picture.proofs.Refusals.{InLimits, in-limits, Accepted, accepted-has
 use Rattle.picture.proofs.Planes.{plane-bound}
 use Rattle.table.specs.Table.{tableOf, buildCall, readCall}
 use Rattle.table.proofs.Reading.{build-fills, read-answers}
-use Rattle.rows.specs.Rows.{RowOutcome, Strip, strip, rowCall, rowResult, rowChecks}
-use Rattle.rows.proofs.Steps.{Ready, Done, strip-done}
+use Rattle.session.specs.Rows.{RowOutcome, Strip, strip, rowCall, rowResult, rowChecks}
+use Rattle.session.proofs.Steps.{Ready, Done, strip-done}
 use Rattle.statistics.specs.declared.Sums.{Sums}
 use Rattle.statistics.specs.SixSums.{sixSums, impossible, unless9}
 use Rattle.statistics.specs.Moments.{unlessEmpty, mean, variance, deviation, meanCall, varianceCall, deviationCall}

@@ -24,7 +24,7 @@ use Rattle.picture.specs.Size.{cells}
 use Rattle.picture.specs.Conditions.{accepted}
 use Rattle.picture.specs.Direct.{directSum, directCall}
 use Rattle.table.specs.Table.{buildCall, readCall}
-use Rattle.rows.specs.Rows.{RowOutcome, rowCall, rowChecks}
+use Rattle.session.specs.Rows.{RowOutcome, rowCall, rowChecks}
 use Rattle.statistics.specs.declared.Sums.{Sums}
 use Rattle.statistics.specs.SixSums.{sixSums}
 use Rattle.statistics.specs.Moments.{unlessEmpty, mean, variance, deviation, meanCall, varianceCall, deviationCall}

@@ -5,20 +5,21 @@ use Prim.Native.Nat.{ℕ, zero, suc, _-_, _≤_, _<_, min}
 use native.Mathlib.Omega.{arith}
 use mathlib.Core.Bool.{Bool, true, false, true≢false}
 use mathlib.Core.List.{List}
+use lib.Dec.{leb}
 use lib.ListN.{length}
 use lib.IntN.{ℤ, pos, _+ℤ_}
 use Rattle.numbers.specs.Grid.{tabulate}
+use Rattle.numbers.specs.Sum.{sumTo, pick, dist}
 use Rattle.numbers.specs.Wrap.{wrap}
 use Rattle.numbers.proofs.Writes.{at}
 use Rattle.picture.specs.declared.Size.{Size}
 use Rattle.picture.specs.Window.{Shape, rectangle, slanted, shapeOf, isRectangle, height, width}
 use Rattle.picture.specs.Picture.{Inputs, planeAt}
 use Rattle.picture.specs.Direct.{directSum}
-use Rattle.rows.specs.Rows.{columnSum, enterLeave, workValue, workChange, workAfter, outputRow}
-use Rattle.rows.specs.Edges.{edgesTo}
-use Rattle.rows.specs.Across.{neighbourSum}
-use Rattle.rows.proofs.EdgeRows.{edges-are}
-use Rattle.rows.proofs.Sliding.{output-near}
+use Rattle.session.specs.Rows.{columnSum, enterLeave, workValue, workChange, workAfter, outputRow}
+use Rattle.steps.specs.Edges.{edgesTo}
+use Rattle.across.specs.Across.{neighbourSum}
+use Rattle.steps.proofs.EdgeRows.{edges-are}
 
 module _ (z : Size) (P : ℕ → ℕ → ℤ) (work out : List ℤ) where
   pub area-rectangle-first : (s : Shape) (position a : ℕ) → isRectangle s ≡ true → a ≡ height s → position ≡ 0 →
@@ -54,6 +55,11 @@ area-slanted-first x work out position e p o = o ∙ go (shapeOf (x .window)) e 
     go (slanted s) e = unfold workAfter workValue in refl
 
 -- ---- the output row
+-- a rectangle's output row is the sums of the work area's neighbours
+output-near : (z : Size) (a b : ℕ) (work : List ℤ) → length work ≡ z .columns → tabulate (length work) (neighbourSum work b) ≡ outputRow z (rectangle a b) work
+unfolding outputRow
+output-near z a b work e = ap (λ (n : ℕ). tabulate n (λ j. wrap (sumTo n (λ k. pick (leb (dist j k) b) (at work k))))) e
+
 pub output-rectangle : (z : Size) (s : Shape) (b : ℕ) (work out : List ℤ) → isRectangle s ≡ true → b ≡ width s → length work ≡ z .columns →
     out ≡ tabulate (length work) (neighbourSum work b) → out ≡ outputRow z s work
 unfolding width

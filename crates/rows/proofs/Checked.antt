@@ -16,7 +16,7 @@ use Rattle.picture.specs.Window.{shapeOf}
 use Rattle.picture.specs.Picture.{Inputs, planeAt}
 use Rattle.picture.specs.Conditions.{inputChecks, accepted, check7, check8}
 use Rattle.picture.proofs.Refusals.{none-before, none-after, none-head, none-rest, number-0, number-refused}
-use Rattle.rows.specs.Rows.{RowOutcome, Strip, strip, rowChecks, rowResult, rowCall}
+use Rattle.session.specs.Rows.{RowOutcome, Strip, strip, rowChecks, rowResult, rowCall}
 
 -- 7, by the position first
 or-left : (a b : Bool) → T a → T (a || b)

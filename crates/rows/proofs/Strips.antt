@@ -12,9 +12,9 @@ use lib.IntN.{ℤ}
 use borrow.Rule.Slice.PartMut.{putMid, postOf}
 use Rattle.picture.specs.declared.Size.{Size}
 use Rattle.picture.specs.Window.{Shape}
-use Rattle.rows.specs.Rows.{Strip, strip, workAfter, outputRow}
+use Rattle.session.specs.Rows.{Strip, strip, workAfter, outputRow}
 use Rattle.rows.specs.Asked.{Advanced}
-use Rattle.rows.proofs.Calls.{strip-more}
+use Rattle.session.proofs.Calls.{strip-more}
 
 -- a part put behind what is done is done too
 put-behind : (start n : ℕ) (out part : List ℤ) → start ≤ length out → length part ≡ n → take (start + n) (putMid start n out part) ≡ take start out ++ part

@@ -3,7 +3,7 @@
 ghost use mathlib.Core.Path.{_≡_};
 ghost use Rattle.picture.specs.Window.{shapeOf};
 ghost use Rattle.picture.specs.Picture.{source, inputs, planeAt};
-ghost use Rattle.rows.specs.Rows.{strip};
+ghost use Rattle.session.specs.Rows.{strip};
 ghost use Rattle.rows.specs.Asked.{ManyAsked, Advanced};
 use super::work as areas;
 use picture::Shift;

@@ -4,16 +4,16 @@ ghost use mathlib.Core.Path.{_≡_};
 ghost use lib.ListN.{length};
 ghost use Rattle.picture.specs.Window.{shapeOf};
 ghost use Rattle.picture.specs.Picture.{source, inputs, planeAt};
-ghost use Rattle.rows.specs.Rows.{workAfter, outputRow};
-ghost use Rattle.rows.specs.Asked.{StepAsked, OutputAsked};
-use super::across;
-use super::rectangle;
-use super::slanted;
-use super::step;
+ghost use Rattle.session.specs.Rows.{workAfter, outputRow};
+ghost use Rattle.rows.specs.Asked.{OutputAsked};
+ghost use Rattle.steps.specs.Asked.{StepAsked};
 use picture::Shift;
 use picture::Size;
 use picture::Window;
 use picture::shape;
+use steps::rectangle;
+use steps::slanted;
+use steps::step;
 
 // The work area moves on to the row at a position: at position 0 it is not read. The room for a row serves on the way.
 fn area(

@@ -16,7 +16,7 @@ use Rattle.picture.specs.declared.Size.{Size}
 use Rattle.picture.specs.declared.Window.{Window}
 use Rattle.picture.specs.Picture.{Inputs}
 use Rattle.picture.specs.Direct.{directSum}
-use Rattle.rows.specs.Asked.{Checked}
+use Rattle.steps.specs.Asked.{Checked}
 use Rattle.statistics.specs.SixSums.{onPlane, sixSums}
 use Rattle.statistics.specs.Moments.{mean}
 use Rattle.statistics.proofs.Possible.{sums-fair, count-bound}

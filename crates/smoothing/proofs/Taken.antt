@@ -16,7 +16,7 @@ use Rattle.picture.specs.declared.Window.{Window}
 use Rattle.picture.specs.Window.{windowLegal}
 use Rattle.picture.specs.Picture.{Levels, inputs}
 use Rattle.picture.proofs.Refusals.{none-head, none-rest, number-0, number-refused, outcome-none, outcome-some}
-use Rattle.rows.specs.Asked.{Checked}
+use Rattle.steps.specs.Asked.{Checked}
 use Rattle.smoothing.specs.Smoothing.{smoothed, smoothChecks, smoothCall}
 use Rattle.smoothing.specs.Steady.{firstSteady, steadyChecks, steadyCall}
 use Rattle.smoothing.specs.Inner.{SmoothAsked}

@@ -13,7 +13,7 @@ use Rattle.numbers.proofs.Writes.{at}
 use Rattle.picture.specs.Refusal.{Outcome, refused, answered}
 use Rattle.picture.specs.Picture.{Inputs}
 use Rattle.picture.specs.Direct.{directSum}
-use Rattle.rows.specs.Asked.{Checked}
+use Rattle.steps.specs.Asked.{Checked}
 use Rattle.statistics.specs.declared.Sums.{Sums}
 use Rattle.statistics.specs.SixSums.{onPlane, sixSums, impossible}
 use Rattle.statistics.specs.Moments.{mean, deviation}

@@ -14,8 +14,8 @@ use Rattle.picture.specs.declared.Size.{Size}
 use Rattle.picture.specs.Size.{cells}
 use Rattle.picture.specs.Picture.{Inputs, planeAt}
 use Rattle.picture.specs.Direct.{directSum}
-use Rattle.rows.specs.Rows.{workValue}
-use Rattle.rows.specs.Asked.{Checked}
+use Rattle.session.specs.Rows.{workValue}
+use Rattle.steps.specs.Asked.{Checked}
 use Rattle.statistics.specs.declared.Sums.{Sums}
 use Rattle.smoothing.specs.Smoothing.{alone}
 

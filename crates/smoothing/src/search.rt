@@ -4,7 +4,7 @@ ghost use mathlib.Core.Path.{_≡_};
 ghost use mathlib.Core.Bool.{false};
 ghost use Rattle.picture.specs.Refusal.{answered};
 ghost use Rattle.picture.specs.Picture.{inputs};
-ghost use Rattle.rows.specs.Asked.{Checked};
+ghost use Rattle.steps.specs.Asked.{Checked};
 ghost use Rattle.statistics.specs.SixSums.{impossible};
 ghost use Rattle.statistics.specs.Voice.{voice};
 ghost use Rattle.statistics.specs.Answers.{voiceOf};

@@ -18,7 +18,7 @@ use Rattle.picture.specs.Window.{rectangleLegal, diamondLegal, hexagonLegal, wi
 use Rattle.picture.specs.Size.{sizeLegal, inRange}
 use Rattle.picture.specs.Picture.{shiftLegal, counts, planeValue, planeAt, levelOf, otherOf}
 use Rattle.picture.specs.Direct.{windowSum, directSum, directCall}
-use Rattle.rows.specs.Rows.{columnSum, cellBelow, cellAbove, enterLeave, workValue, workChange, workAfter, outputRow, strip, rowResult, rowCall}
+use Rattle.session.specs.Rows.{columnSum, cellBelow, cellAbove, enterLeave, workValue, workChange, workAfter, outputRow, strip, rowResult, rowCall}
 use Rattle.statistics.specs.declared.Sums.{Sums}
 use Rattle.statistics.specs.SixSums.{sixSums, impossible, onPlane}
 use Rattle.statistics.specs.Moments.{mean, variance, deviation, unlessEmpty, meanCall, varianceCall, deviationCall}

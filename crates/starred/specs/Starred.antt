@@ -13,7 +13,7 @@ use Rattle.picture.specs.Size.{size}
 use Rattle.picture.specs.declared.Shift.{Shift}
 use Rattle.picture.specs.Picture.{shift, noShift, Inputs, inputs}
 use Rattle.picture.specs.Direct.{directCall}
-use Rattle.rows.specs.Rows.{RowOutcome, rowCall}
+use Rattle.session.specs.Rows.{RowOutcome, rowCall}
 use Rattle.statistics.specs.declared.Sums.{Sums}
 use Rattle.statistics.specs.SixSums.{sixSums, onPlane, Vf}
 use Rattle.statistics.specs.Moments.{meanCall, varianceCall, deviationCall}

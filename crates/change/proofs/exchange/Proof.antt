@@ -91,8 +91,8 @@ exchange-lines-requires c κs =
     let lies : (m : ℕ) → Lies (s .args .f .now) (s .args .g .now) (along two .end - along two .first) (lineOf (s .args .size) (counting two) (along two) m) = λ m. line-lies (s .args .size) (counting two) (along two) m (s .args .f .now) (s .args .g .now) (in-limits (s .args .size) (s .pre .size)) (span _ _ _ (down-overlaps two)) (span _ _ _ o) (s .pre .length-f) (s .pre .length-g) in
     record {
       few = omega (arith, few two, n);
-      entering = rw (c .before .before .line-of .ensures, n) (lies (s .args .enter));
-      leaving = rw (c .before .line-of2 .ensures, n) (lies (s .args .leave));
+      entering = rw (c .before .before .line-of .ensures, n) (lies _);
+      leaving = rw (c .before .line-of2 .ensures, n) (lies _);
       numbers = slice-numbers (along two .end - along two .first) (along two .first) (s .args .sums .now) (c .before .before .before .known .ensures);
     }
 

@@ -46,7 +46,7 @@ use denote.Triple.Walked.{says, Stays, stay-ref, walkOf, goes-ref, Walks, ends-a
 use Rattle.picture.specs.Size.{size}
 use Rattle.picture.specs.Window.{window}
 use Rattle.picture.specs.Picture.{shift, inputs}
-use Rattle.rows.specs.Rows.{rowCall}
+use Rattle.session.specs.Rows.{rowCall}
 use Rattle.rows.specs.Answers.{rowsOutcome}
 use Rattle.rows.specs.declared.Session.{Session}
 use Rattle.rows.specs.declared.Moved.{Moved}

@@ -9,7 +9,7 @@ use Rattle.picture.specs.Refusal.{Outcome, answered, refusal}
 use Rattle.picture.specs.Window.{shapeOf}
 use Rattle.picture.specs.Picture.{Inputs, inputs, planeAt}
 use Rattle.picture.proofs.Refusals.{accepted-has, in-limits}
-use Rattle.rows.specs.Rows.{RowOutcome, Strip, strip, rowChecks, rowCall}
+use Rattle.session.specs.Rows.{RowOutcome, Strip, strip, rowChecks, rowCall}
 use Rattle.rows.proofs.Checked.{Granted, granted-has, call-taken, call-number, call-granted}
 use Rattle.rows.proofs.rows_at.Statement.{statement}
 use Rattle.rows.proofs.rows_at.Tie as tie

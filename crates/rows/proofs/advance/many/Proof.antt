@@ -9,7 +9,7 @@ use Rattle.numbers.proofs.Writes.{slice-length}
 use Rattle.picture.specs.Window.{shapeOf}
 use Rattle.picture.specs.Picture.{source, planeAt}
 use Rattle.picture.proofs.Refusals.{in-limits}
-use Rattle.rows.specs.Rows.{outputRow}
+use Rattle.session.specs.Rows.{outputRow}
 use Rattle.rows.proofs.Strips.{Partly, partly-none, partly-more, partly-all, row-room}
 use Rattle.rows.proofs.advance.many.Statement.{statement}
 use Rattle.rows.proofs.advance.many.Tie as tie

@@ -2,7 +2,7 @@
 use borrow.Author.Needs.{needs}
 use mathlib.Core.Path.{_≡_, ap, _∙_}
 use Rattle.picture.specs.Window.{shapeOf}
-use Rattle.rows.specs.Rows.{outputRow}
+use Rattle.session.specs.Rows.{outputRow}
 use Rattle.rows.proofs.work.next.Statement.{statement}
 use Rattle.rows.proofs.work.next.Tie as tie
 
