@@ -1,6 +1,6 @@
 -- The voice answer of a cell: it is never refused, and N, S and A alone decide it.
 -- Assumes nothing.
-use mathlib.Core.Path.{_≡_, refl, _∙_, ap}
+use mathlib.Core.Path.{_≡_, refl, sym, _∙_, ap}
 use mathlib.Core.Bool.{Bool, false}
 use Prim.Native.Nat.{ℕ, _<_}
 use native.Mathlib.Omega.{arith}
@@ -15,9 +15,11 @@ use Rattle.picture.specs.Picture.{Inputs}
 use Rattle.picture.specs.Direct.{directSum}
 use Rattle.rows.specs.Asked.{Checked}
 use Rattle.statistics.specs.declared.Sums.{Sums}
+use Rattle.statistics.specs.declared.Voice as declared
 use Rattle.statistics.specs.SixSums.{onPlane, sixSums, impossible}
 use Rattle.statistics.specs.Moments.{mean, deviation}
 use Rattle.statistics.specs.Voice.{Voice, voice, voiceCall}
+use Rattle.statistics.specs.Answers.{voiceOf}
 use Rattle.statistics.proofs.Bounds.{possible-has, possible-of, answers}
 use Rattle.statistics.proofs.Possible.{sums-possible}
 use Rattle.smoothing.specs.Steady.{isSteady, findCell, firstSteady}
@@ -63,8 +65,9 @@ module _ (x : Inputs) (c : Checked x) (i j : ℕ) (n s a : List ℤ) (inside : j
   pub row-possible : impossible (firstSums (at n j) (at s j) (at a j)) ≡ false
   row-possible = ap impossible sums-are ∙ possible-first (sixSums x i j) (sums-possible x (c .levels-f) (c .levels-g) (c .window) i j)
 
-  pub row-voice : voice (firstSums (at n j) (at s j) (at a j)) ≡ voice (sixSums x i j)
-  row-voice = ap voice sums-are ∙ voice-first (sixSums x i j)
+  -- what is heard of those numbers is the voice of the cell
+  pub row-steady : (v : declared.Voice) → voiceOf v ≡ voice (firstSums (at n j) (at s j) (at a j)) → isSteady (voice (sixSums x i j)) ≡ isSteady (voiceOf v)
+  row-steady v e = ap isSteady (sym (e ∙ ap voice sums-are ∙ voice-first (sixSums x i j)))
 
 -- ---- the public answer
 module _ (x : Inputs) (c : Checked x) where
