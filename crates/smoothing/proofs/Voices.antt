@@ -51,24 +51,6 @@ possible-first z e =
       schwarz = simp *ℤ-zero (≤ℤ-refl (pos 0));
     })
 
--- ---- from rows of N, S and A
-module _ (x : Inputs) (c : Checked x) (i j : ℕ) (n s a : List ℤ) (inside : j < x .source .size .columns)
-    (n-is : n ≡ tabulate (x .source .size .columns) (directSum (onPlane x 0) i))
-    (s-is : s ≡ tabulate (x .source .size .columns) (directSum (onPlane x 1) i))
-    (a-is : a ≡ tabulate (x .source .size .columns) (directSum (onPlane x 3) i)) where
-  at-cell : (k : ℕ) (l : List ℤ) → l ≡ tabulate (x .source .size .columns) (directSum (onPlane x k) i) → at l j ≡ directSum (onPlane x k) i j
-  at-cell k l e = ap (λ (m : List ℤ). at m j) e ∙ getD-tabulate (x .source .size .columns) j (directSum (onPlane x k) i) (pos 0) inside
-
-  sums-are : firstSums (at n j) (at s j) (at a j) ≡ firstSums (sixSums x i j .n) (sixSums x i j .s) (sixSums x i j .a)
-  sums-are = rw (at-cell 0 n n-is, at-cell 1 s s-is, at-cell 3 a a-is)
-
-  pub row-possible : impossible (firstSums (at n j) (at s j) (at a j)) ≡ false
-  row-possible = ap impossible sums-are ∙ possible-first (sixSums x i j) (sums-possible x (c .levels-f) (c .levels-g) (c .window) i j)
-
-  -- what is heard of those numbers is the voice of the cell
-  pub row-steady : (v : declared.Voice) → voiceOf v ≡ voice (firstSums (at n j) (at s j) (at a j)) → isSteady (voice (sixSums x i j)) ≡ isSteady (voiceOf v)
-  row-steady v e = ap isSteady (sym (e ∙ ap voice sums-are ∙ voice-first (sixSums x i j)))
-
 -- ---- the public answer
 module _ (x : Inputs) (c : Checked x) where
   pub cell-possible : (i j : ℕ) → impossible (sixSums x i j) ≡ false
@@ -87,3 +69,21 @@ answersSteady (answered v) = isSteady v
 pub first-by-answers : (x : Inputs) → Checked x → firstSteady x ≡ findCell (λ i j. answersSteady (voiceCall (sixSums x i j))) (x .source .size .columns) 0 (x .source .size .rows)
 unfolding firstSteady
 first-by-answers x c = simp (voice-answers x c)
+
+-- ---- from rows of N, S and A
+module _ (x : Inputs) (c : Checked x) (i j : ℕ) (n s a : List ℤ) (inside : j < x .source .size .columns)
+    (n-is : n ≡ tabulate (x .source .size .columns) (directSum (onPlane x 0) i))
+    (s-is : s ≡ tabulate (x .source .size .columns) (directSum (onPlane x 1) i))
+    (a-is : a ≡ tabulate (x .source .size .columns) (directSum (onPlane x 3) i)) where
+  at-cell : (k : ℕ) (l : List ℤ) → l ≡ tabulate (x .source .size .columns) (directSum (onPlane x k) i) → at l j ≡ directSum (onPlane x k) i j
+  at-cell k l e = ap (λ (m : List ℤ). at m j) e ∙ getD-tabulate (x .source .size .columns) j (directSum (onPlane x k) i) (pos 0) inside
+
+  sums-are : firstSums (at n j) (at s j) (at a j) ≡ firstSums (sixSums x i j .n) (sixSums x i j .s) (sixSums x i j .a)
+  sums-are = rw (at-cell 0 n n-is, at-cell 1 s s-is, at-cell 3 a a-is)
+
+  pub row-possible : impossible (firstSums (at n j) (at s j) (at a j)) ≡ false
+  row-possible = ap impossible sums-are ∙ possible-first (sixSums x i j) (cell-possible x c i j)
+
+  -- what is heard of those numbers is the voice of the cell
+  pub row-steady : (v : declared.Voice) → voiceOf v ≡ voice (firstSums (at n j) (at s j) (at a j)) → isSteady (voice (sixSums x i j)) ≡ isSteady (voiceOf v)
+  row-steady v e = ap isSteady (sym (e ∙ ap voice sums-are ∙ voice-first (sixSums x i j)))
