@@ -29,7 +29,7 @@ use Rattle.statistics.proofs.Voice.{the-type}
 use Rattle.smoothing.specs.Steady.{isSteady, findColumn, findCell, firstSteady}
 use Rattle.smoothing.specs.Inner.{ready}
 use Rattle.smoothing.proofs.RowSums.{on-plane}
-use Rattle.smoothing.proofs.Voices.{row-possible, row-voice}
+use Rattle.smoothing.proofs.Voices.{row-possible, row-steady}
 use Rattle.smoothing.proofs.Searching.{steadyAt, whole-row, whole-search, column-passed, column-found, no-column, row-passed, row-found, no-row}
 use Rattle.smoothing.proofs.search.first.Statement.{statement}
 use Rattle.smoothing.proofs.search.first.Tie as tie
@@ -171,10 +171,8 @@ cell-steady c =
     let r = c .before .before .before .before .before .before in
     let t = turn r in
     let s = t .before .before in
-    let j = column (c .before) in
-    ap isSteady
-    (sym (row-voice (given s) (s .pre .inputs) (t .before .search .i) j _ _ _ (c .before .before .before .before .loop-test .taken) (r .before .before .before .before .before .before .before .before .before .before .before .before .next .ensures .sums) (r .before .before .before .before .before .before .before .next2 .ensures .sums) (r .before .before .next3 .ensures .sums))
-    ∙ sym (simp (toZ-ofZ, fits-n (c .before), fits-s (c .before), fits-a (c .before)) at (c .heard .ensures)))
+    row-steady (given s) (s .pre .inputs) (t .before .search .i) (column (c .before)) _ _ _ (c .before .before .before .before .loop-test .taken) (r .before .before .before .before .before .before .before .before .before .before .before .before .next .ensures .sums) (r .before .before .before .before .before .before .before .next2 .ensures .sums) (r .before .before .next3 .ensures .sums) (c .heard .result)
+    (simp (toZ-ofZ, fits-n (c .before), fits-s (c .before), fits-a (c .before)) at (c .heard .ensures))
 
 -- a voice that is passed over
 passed : (v : Voice) → OneOf (0 ∷ 2 ∷ []) (tagOf the-type v) → isSteady (voiceOf v) ≡ false
@@ -244,6 +242,8 @@ record Left (x : Inputs) (counts totals squares n s a : List ℤ) (i j : ℕ) : 
   found : i < x .source .size .rows → some (cell i j) ≡ firstSteady x
   nowhere : x .source .size .rows ≤ i → none ≡ firstSteady x
 
+-- in its second case w has what the turn bound, in the order of the code: the test at 0, the rows of sums at 3, 8 and 13, the column loop and its test at 16
+-- and 17, the numbers read from 18 on, what was heard at 21 and that it is Steady at 23, and then the areas and j
 left : (c : tie.Left-search Inv-loop μ-loop Inv-search μ-search) → Left (given (c .before .before)) (c .search-test .counts) (c .search-test .totals) (c .search-test .squares) (c .search-test .n) (c .search-test .s) (c .search-test .a) (c .before .search .i) (c .search-test .j)
 left c =
     let s = c .before .before in
@@ -263,9 +263,13 @@ left c =
       nowhere = λ h. sym (no-row (steadyAt x) (z .columns) i (z .rows) h) ∙ l .inv .0;
     })
     (λ w.
-    let h : tie.After-heard Inv-loop μ-loop Inv-search μ-search = record { before = record { before = record { before = record { before = record { before = record { before = record { before = record { before = record { before = record { before = record { before = record { before = record { before = record { before = record { before = record { before = record { before = record { before = record { before = record { before = record { before = record { before = c .before; search-test = w .0 }; next-arg = w .1 }; next-arg2 = w .2 }; next = w .3 }; counts = w .4 }; n = w .5 }; next-arg3 = w .6 }; next-arg4 = w .7 }; next2 = w .8 }; totals = w .9 }; s = w .10 }; next-arg5 = w .11 }; next-arg6 = w .12 }; next3 = w .13 }; squares = w .14 }; a = w .15 }; loop = w .16 }; loop-test = w .17 }; heard-arg = w .18 }; heard-arg2 = w .19 }; heard-arg3 = w .20 }; heard = w .21 } in
-    let hit = column-found (steadyAt x i) (w .16 .j) (z .columns) (w .17 .taken) (cell-steady h ∙ ap (λ (v : Voice). isSteady (voiceOf v)) (w .23 .given .1)) in
-    let row = row-found (steadyAt x) (z .columns) i (z .rows) (w .16 .j) (w .0 .taken) (sym (w .16 .inv) ∙ hit) in
+    let j = w .16 .j in
+    let read-n : SFits w64 (at (w .3 .last .1 .1 .1 .1 .1 .1 .1 .1 .0) j) = record { sfits = w .18 .given } in
+    let read-s : SFits w64 (at (w .8 .last .1 .1 .1 .1 .1 .1 .1 .1 .0) j) = record { sfits = w .19 .given } in
+    let read-a : SFits w64 (at (w .13 .last .1 .1 .1 .1 .1 .1 .1 .1 .0) j) = record { sfits = w .20 .given } in
+    let heard = row-steady x (s .pre .inputs) i j _ _ _ (w .17 .taken) (w .3 .ensures .sums) (w .8 .ensures .sums) (w .13 .ensures .sums) (w .21 .result) (simp (toZ-ofZ, read-n, read-s, read-a) at (w .21 .ensures)) in
+    let hit = column-found (steadyAt x i) j (z .columns) (w .17 .taken) (heard ∙ ap (λ (v : Voice). isSteady (voiceOf v)) (w .23 .given .1)) in
+    let row = row-found (steadyAt x) (z .columns) i (z .rows) j (w .0 .taken) (sym (w .16 .inv) ∙ hit) in
     record {
       room-counts = ap length (w .24) ∙ w .3 .kept .1 .1 .1 .1 .1 .1 .1 .0 ∙ l .inv .1;
       room-totals = ap length (w .25) ∙ w .8 .kept .1 .1 .1 .1 .1 .1 .1 .0 ∙ l .inv .2;
