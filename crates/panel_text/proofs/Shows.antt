@@ -9,7 +9,7 @@ use mathlib.Core.List.{List, [], _∷_, _++_}
 use mathlib.Core.Option.{none}
 use lib.Dec.{T, leb, ltb, eqb}
 use lib.ListN.{length, take, drop, length-append}
-use lib.Seq.{take-at, length-take-le, sets, sets-eq}
+use lib.Seq.{take-at, length-take-le, sets, length-sets, sets-eq}
 use lib.IntN.{ℤ, pos}
 use Rattle.numbers.proofs.Tests.{and-left, not-of}
 use Rattle.picture.specs.Refusal.{Outcome, Filling, refused, answered, refusal}
@@ -84,10 +84,10 @@ module _ (text old : List ℕ) where
   by-room b e =
       ap (λ (b : Bool). elim b [ true ↦ record { count = 0; area = old } | false ↦ record { count = length (panel text); area = panel text ++ drop (length (panel text)) old } ]) e
 
-  pub no-room : length old < 28672 → (0 ≡ rendered text old .count) × (old ≡ rendered text old .area)
+  pub no-room : length old < 28672 → (0 ≡ rendered text old .count) × ((old ≡ rendered text old .area) × (0 ≤ length old))
   no-room h =
       let e = by-room true (lt-ltb (length old) 28672 h) in
-      (sym (ap (λ (r : Rendering). r .count) e), sym (ap (λ (r : Rendering). r .area) e))
+      (sym (ap (λ (r : Rendering). r .count) e), (sym (ap (λ (r : Rendering). r .area) e), omega arith))
 
   module _ (h : 28672 ≤ length old) (r : Parsed) (levels : List ℤ) (p : parsed text ≡ drawn r levels) where
     pub legal-show : (z : Size) (w : Window) → r ≡ Taken z w → 4096 ≤ length levels → Showable z w levels old
@@ -99,16 +99,16 @@ module _ (text old : List ℕ) where
     unfolding panel
     panel-is = ap shown p
 
-    pub panel-rendered : (x : Parsed) → r ≡ x → (new : List ℕ) (end : ℕ) → Fitted (shown (drawn x levels)) old 0 new end → (end ≡ rendered text old .count) × (new ≡ rendered text old .area)
+    pub panel-rendered : (x : Parsed) → r ≡ x → (new : List ℕ) (end : ℕ) → Fitted (shown (drawn x levels)) old 0 new end → (end ≡ rendered text old .count) × ((new ≡ rendered text old .area) × (end ≤ length new))
     panel-rendered x is new end f =
         let e = by-room false (le-ltb (length old) 28672 h) in
         let b : shown (drawn x levels) ≡ panel text = ap (λ (y : Parsed). shown (drawn y levels)) (sym is) ∙ sym panel-is in
         let g : Fitted (panel text) old 0 new end = subst (λ (l : List ℕ). Fitted l old 0 new end) b f in
         let n : end ≡ length (panel text) = omega (arith, g .written .place) in
-        let z : 0 + length (panel text) ≡ length (panel text) = omega arith in (
-          n ∙ sym (ap (λ (r : Rendering). r .count) e),
-          g .written .area ∙ sets-eq (panel text) old 0 (omega (arith, g .inside)) ∙ ap (λ (k : ℕ). panel text ++ drop k old) z ∙ sym (ap (λ (r : Rendering). r .area) e),
-        )
+        let z : 0 + length (panel text) ≡ length (panel text) = omega arith in
+        let a : new ≡ rendered text old .area = g .written .area ∙ sets-eq (panel text) old 0 (omega (arith, g .inside)) ∙ ap (λ (k : ℕ). panel text ++ drop k old) z ∙ sym (ap (λ (r : Rendering). r .area) e) in
+        let w : end ≤ length new = omega (arith, g .inside, ap length (g .written .area), length-sets old 0 (panel text)) in
+        (n ∙ sym (ap (λ (r : Rendering). r .count) e), (a, w))
 
 pub refused-fitted : (n : ℕ) (levels : List ℤ) (old new : List ℕ) (end : ℕ) → Fitted (refusedLine n) old 0 new end → Fitted (shown (drawn (Refused n) levels)) old 0 new end
 unfolding shown
