@@ -1,18 +1,18 @@
 -- A picture that was taken is not refused by smoothing, and its lines are what panel shows; an output that stands at the front of its area.
 -- Assumes nothing.
-use mathlib.Core.Path.{_≡_, refl, sym, _∙_, ap, subst}
-use Prim.Native.Nat.{ℕ, _+_, _*_, _≤_, _<_}
+use mathlib.Core.Path.{_≡_, sym, _∙_, ap, subst}
+use Prim.Native.Nat.{ℕ, _+_, _≤_, _<_}
 use native.Mathlib.Omega.{arith}
 use borrow.Author.Tests.{lt-ltb, le-ltb}
-use mathlib.Core.Bool.{Bool, true, false, not, _&&_}
-use mathlib.Core.List.{List, [], _∷_, _++_}
+use mathlib.Core.Bool.{Bool, true, false}
+use mathlib.Core.List.{List, _++_}
 use mathlib.Core.Option.{none}
-use lib.Dec.{T, leb, ltb, eqb}
+use lib.Dec.{T, leb, ltb}
 use lib.ListN.{length, take, drop, length-append}
-use lib.Seq.{take-at, length-take-le, sets, length-sets, sets-eq}
-use lib.IntN.{ℤ, pos}
+use lib.Seq.{take-at, length-take-le, sets-eq}
+use lib.IntN.{ℤ}
 use Rattle.numbers.proofs.Tests.{and-left, not-of}
-use Rattle.picture.specs.Refusal.{Outcome, Filling, refused, answered, refusal}
+use Rattle.picture.specs.Refusal.{Filling, refusal}
 use Rattle.picture.specs.declared.Size.{Size}
 use Rattle.picture.specs.Size.{sizeLegal, cells}
 use Rattle.picture.specs.declared.Window.{Window}
@@ -22,14 +22,14 @@ use Rattle.smoothing.specs.Smoothing.{smoothed, smoothChecks, smoothCall}
 use Rattle.smoothing.proofs.Means.{smooth-writes}
 use Rattle.panel_text.specs.declared.read.Parsed.{Parsed}
 use Rattle.panel_text.specs.declared.read.Parsed.the-variants.{Refused, Taken}
-use Rattle.panel_text.specs.Panel.{Drawing, panelSize, linesOf, refusedLine, parsed, shown, panel}
+use Rattle.panel_text.specs.Panel.{panelSize, linesOf, refusedLine, parsed, shown, panel}
 use Rattle.panel_text.specs.Read.{drawn}
-use Rattle.panel_text.specs.Print.{Written, Fitted, valueAt, LinesRoom, Showable}
+use Rattle.panel_text.specs.Print.{Fitted, valueAt, LinesRoom, Showable}
 use Rattle.panel_text.specs.Rendered.{Rendering, rendered}
 use Rattle.panel_text.proofs.Legal.{parsed-legal}
 use Rattle.panel_text.proofs.Drawings.{cells-few, cells-part}
 
-in-size : (z : Size) → T (panelSize z) → T (sizeLegal z)
+pub in-size : (z : Size) → T (panelSize z) → T (sizeLegal z)
 unfolding panelSize
 in-size z t = and-left (sizeLegal z) (leb (cells z) 4096) t
 
@@ -84,10 +84,10 @@ module _ (text old : List ℕ) where
   by-room b e =
       ap (λ (b : Bool). elim b [ true ↦ record { count = 0; area = old } | false ↦ record { count = length (panel text); area = panel text ++ drop (length (panel text)) old } ]) e
 
-  pub no-room : length old < 28672 → (0 ≡ rendered text old .count) × ((old ≡ rendered text old .area) × (0 ≤ length old))
+  pub no-room : length old < 28672 → (0 ≡ rendered text old .count) × (old ≡ rendered text old .area)
   no-room h =
       let e = by-room true (lt-ltb (length old) 28672 h) in
-      (sym (ap (λ (r : Rendering). r .count) e), (sym (ap (λ (r : Rendering). r .area) e), omega arith))
+      (sym (ap (λ (r : Rendering). r .count) e), sym (ap (λ (r : Rendering). r .area) e))
 
   module _ (h : 28672 ≤ length old) (r : Parsed) (levels : List ℤ) (p : parsed text ≡ drawn r levels) where
     pub legal-show : (z : Size) (w : Window) → r ≡ Taken z w → 4096 ≤ length levels → Showable z w levels old
@@ -99,7 +99,7 @@ module _ (text old : List ℕ) where
     unfolding panel
     panel-is = ap shown p
 
-    pub panel-rendered : (x : Parsed) → r ≡ x → (new : List ℕ) (end : ℕ) → Fitted (shown (drawn x levels)) old 0 new end → (end ≡ rendered text old .count) × ((new ≡ rendered text old .area) × (end ≤ length new))
+    pub panel-rendered : (x : Parsed) → r ≡ x → (new : List ℕ) (end : ℕ) → Fitted (shown (drawn x levels)) old 0 new end → (end ≡ rendered text old .count) × (new ≡ rendered text old .area)
     panel-rendered x is new end f =
         let e = by-room false (le-ltb (length old) 28672 h) in
         let b : shown (drawn x levels) ≡ panel text = ap (λ (y : Parsed). shown (drawn y levels)) (sym is) ∙ sym panel-is in
@@ -107,8 +107,7 @@ module _ (text old : List ℕ) where
         let n : end ≡ length (panel text) = omega (arith, g .written .place) in
         let z : 0 + length (panel text) ≡ length (panel text) = omega arith in
         let a : new ≡ rendered text old .area = g .written .area ∙ sets-eq (panel text) old 0 (omega (arith, g .inside)) ∙ ap (λ (k : ℕ). panel text ++ drop k old) z ∙ sym (ap (λ (r : Rendering). r .area) e) in
-        let w : end ≤ length new = omega (arith, g .inside, ap length (g .written .area), length-sets old 0 (panel text)) in
-        (n ∙ sym (ap (λ (r : Rendering). r .count) e), (a, w))
+        (n ∙ sym (ap (λ (r : Rendering). r .count) e), a)
 
 pub refused-fitted : (n : ℕ) (levels : List ℤ) (old new : List ℕ) (end : ℕ) → Fitted (refusedLine n) old 0 new end → Fitted (shown (drawn (Refused n) levels)) old 0 new end
 unfolding shown

@@ -2,6 +2,7 @@
 use borrow.Author.Needs.{needs}
 use mathlib.Core.Path.{sym}
 use lib.Seq.{length-take-le}
+use Rattle.panel_text.proofs.Longest.{rendered-within}
 use Rattle.panel.proofs.main.Statement.{statement}
 use Rattle.panel.proofs.main.Tie as tie
 
@@ -30,12 +31,14 @@ render-requires : tie.Need-render-requires
 render-requires c κs = search needs
 
 array-share-prefix-out : tie.Need-array-share-prefix-out
-array-share-prefix-out c = search needs
+array-share-prefix-out c =
+    let r = c .before .render in
+    rendered-within _ _ _ _ (r .ensures .0) (r .ensures .1)
 
 slice-aggregate-write-all : tie.Need-slice-aggregate-write-all
 slice-aggregate-write-all c =
     let r = c .before .before .render in
-    sym (length-take-le (r .result) (r .last .1 .0) (r .ensures .1 .1))
+    sym (length-take-le (r .result) (r .last .1 .0) (rendered-within _ _ _ _ (r .ensures .0) (r .ensures .1)))
 
 write-all-requires : tie.Need-write-all-requires
 write-all-requires c κs = search needs
