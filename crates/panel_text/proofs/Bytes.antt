@@ -1,12 +1,12 @@
 -- Decimal digits and the bytes of an area: one more digit, how many there are, and bytes stored in parts.
 -- Assumes nothing.
 use mathlib.Core.Path.{_≡_, refl, sym, _∙_, ap, subst}
-use Prim.Native.Nat.{ℕ, zero, suc, _+_, _-_, _*_, _/_, _%_, _^_, _≤_, _<_}
-use native.Mathlib.Nat.{pow-suc, add-suc}
+use Prim.Native.Nat.{ℕ, zero, suc, _+_, _*_, _/_, _%_, _^_, _≤_, _<_}
+use native.Mathlib.Nat.{pow-suc}
 use native.Mathlib.Omega.{arith}
 use borrow.Author.Tests.{lt-ltb, le-ltb, ltb-true, ltb-false, leb-false}
 use mathlib.Core.Bool.{Bool, true, false}
-use mathlib.Core.List.{List, [], _∷_, _++_, append-nil}
+use mathlib.Core.List.{List, [], _∷_, _++_}
 use lib.Dec.{ltb}
 use lib.ListN.{length, set, length-append}
 use lib.Seq.{sets, length-sets}
@@ -79,9 +79,6 @@ written-more xs ys old new newer at place end v w =
 -- one byte more
 pub written-one : (old : List ℕ) (at b : ℕ) → Written (b ∷ []) old at (set old at b) (at + 1)
 written-one old at b = record { area = refl; place = refl }
-
-pub written-length : (bytes old new : List ℕ) (at end : ℕ) → Written bytes old at new end → length new ≡ length old
-written-length bytes old new at end w = ap length (w .area) ∙ length-sets old at bytes
 
 pub written-is : (xs ys old new : List ℕ) (at end : ℕ) → xs ≡ ys → Written xs old at new end → Written ys old at new end
 written-is xs ys old new at end e w = subst (λ (l : List ℕ). Written l old at new end) e w

@@ -1,11 +1,11 @@
 -- From numbers to a drawing, one number after the other: what is missing or malformed, the size, the window, the levels.
 -- Assumes nothing.
 use mathlib.Core.Path.{_≡_, refl, sym, _∙_, ap, subst}
-use Prim.Native.Nat.{ℕ, zero, suc, _+_, _-_, _*_, _^_, _≤_, _<_}
+use Prim.Native.Nat.{ℕ, suc, _+_, _-_, _^_, _≤_, _<_}
 use native.Mathlib.Nat.{mul-le-mul}
 use native.Mathlib.Numerals.{add-one}
 use native.Mathlib.Omega.{arith}
-use mathlib.Core.Bool.{Bool, true, false, not, _&&_}
+use mathlib.Core.Bool.{Bool, true, false, not}
 use mathlib.Core.List.{List, [], _∷_, _++_, append-nil}
 use mathlib.Core.Logic.{_⊎_, inl, inr}
 use mathlib.Core.Option.{Option, none, some}
@@ -18,7 +18,7 @@ use borrow.Author.Tests.{ltb-true, le-ltb, not-true, not-false}
 use mir.Syntax.{w32}
 use mir.Val.{SFits}
 use denote.Enum.Declared.{tagOf}
-use Rattle.picture.specs.Refusal.{Outcome, refused, answered}
+use Rattle.picture.specs.Refusal.{refused, answered}
 use Rattle.picture.specs.declared.Size.{Size}
 use Rattle.picture.specs.declared.Window.{Window}
 use Rattle.picture.specs.Size.{size, sizeLegal, cells}
@@ -33,7 +33,7 @@ use Rattle.panel_text.specs.declared.read.WindowRead.{WindowRead}
 use Rattle.panel_text.specs.declared.read.SizeRead.the-variants.{Refused as SizeRefused, Taken as SizeTaken}
 use Rattle.panel_text.specs.declared.read.WindowRead.the-variants.{Malformed as NoWindow, Taken as WindowTaken}
 use Rattle.panel_text.specs.Scan.{numbersFrom, told}
-use Rattle.panel_text.specs.Panel.{Drawing, countOf, panelSize, isLevel, levelsOf, framed, filled, sized, parsed}
+use Rattle.panel_text.specs.Panel.{countOf, panelSize, isLevel, levelsOf, framed, filled, sized, parsed}
 use Rattle.panel_text.specs.Read.{sizeTold, SizeLegal, SizeIs, windowTold, WindowIs, levelsTold, Roomy}
 
 -- ---- no number stands next, or nothing does
@@ -258,7 +258,7 @@ module _ (text : List ℕ) (at : ℕ) (old now : List ℤ) (place k : ℕ) (u : 
       levels-all is = last ∙ ap (onto now) (ap (levelsOf 0) (e ∙ ap (told text) is) ∙ all-read) ∙ ap some (append-nil now)
 
 -- ---- the outcome
-pub framed-none : (z : Size) (w : Window) → framed z w none ≡ refused 10
+framed-none : (z : Size) (w : Window) → framed z w none ≡ refused 10
 unfolding framed
 framed-none z w = refl
 
@@ -267,10 +267,10 @@ module _ (z : Size) (w : Window) (l : List ℤ) where
   unfolding framed
   by-window b e = ap (λ (b : Bool). elim b [ true ↦ answered (record { size = z; window = w; levels = l }) | false ↦ refused 3 ]) e
 
-  pub framed-beyond : windowLegal w ≡ false → framed z w (some l) ≡ refused 3
+  framed-beyond : windowLegal w ≡ false → framed z w (some l) ≡ refused 3
   framed-beyond e = by-window false e
 
-  pub framed-legal : windowLegal w ≡ true → framed z w (some l) ≡ answered (record { size = z; window = w; levels = l })
+  framed-legal : windowLegal w ≡ true → framed z w (some l) ≡ answered (record { size = z; window = w; levels = l })
   framed-legal e = by-window true e
 
 -- ---- a number that counts, and a legal size

@@ -7,11 +7,11 @@ use mathlib.Core.List.{List, [], _∷_, map}
 use mathlib.Core.Option.{none, some}
 use lib.Dec.{T, ltb, lt→ltb}
 use lib.ListN.{length}
-use lib.IntN.{ℤ, pos, negsuc}
+use lib.IntN.{pos}
 use Rattle.numbers.specs.Sum.{sumTo, pick}
 use Rattle.numbers.specs.Grid.{tabulate, rowsFrom}
 use Rattle.numbers.specs.Round.{floorDiv, nearest}
-use Rattle.picture.specs.Refusal.{Outcome, refused, answered}
+use Rattle.picture.specs.Refusal.{Outcome, refused}
 use Rattle.picture.specs.Window.{rectangleLegal, diamondLegal, hexagonLegal, windowLegal, shapeOf, height, reach}
 use Rattle.picture.specs.Size.{sizeLegal, inRange}
 use Rattle.picture.specs.Picture.{counts, planeValue, planeAt}

@@ -1,20 +1,20 @@
 -- A text that is taken asks for a legal picture and a legal window, so smoothing does not refuse it.
 -- Assumes nothing.
-use mathlib.Core.Path.{_≡_, refl, sym, _∙_, ap, subst}
-use Prim.Native.Nat.{ℕ, zero, suc, _+_, _*_, _^_, _≤_, _<_}
+use mathlib.Core.Path.{_≡_, refl, ap, subst}
+use Prim.Native.Nat.{ℕ, zero, suc, _^_, _<_}
 use native.Mathlib.Omega.{arith}
-use mathlib.Core.Bool.{Bool, true, false, _&&_}
+use mathlib.Core.Bool.{Bool, true, false}
 use mathlib.Core.List.{List, [], _∷_, map}
 use mathlib.Core.Option.{Option, none, some}
-use lib.Dec.{T, leb, ltb, leb→le}
+use lib.Dec.{T, ltb, leb→le}
 use lib.ListN.{length, getD}
 use lib.IntN.{ℤ, pos, negsuc}
 use lib.Signed.{leZ, mag}
-use Rattle.picture.specs.Refusal.{Outcome, refused, answered}
+use Rattle.picture.specs.Refusal.{refused, answered}
 use Rattle.picture.specs.declared.Size.{Size}
 use Rattle.picture.specs.Size.{size, cells}
 use Rattle.picture.specs.declared.Window.{Window}
-use Rattle.picture.specs.Window.{window, windowLegal, between}
+use Rattle.picture.specs.Window.{window, windowLegal}
 use Rattle.picture.specs.Picture.{Levels}
 use Rattle.numbers.proofs.Tests.{and-left, and-right}
 use Rattle.panel_text.specs.Text.{runs, number}

@@ -5,9 +5,9 @@ use Prim.Native.Nat.{ℕ, zero, suc, _+_, _-_, _*_, _≤_, _<_}
 use native.Mathlib.Numerals.{add-one}
 use native.Mathlib.Omega.{arith}
 use mathlib.Core.List.{List, [], _∷_, _++_, append-nil, append-assoc}
-use lib.ListN.{length, getD, take, drop, length-append}
+use lib.ListN.{length, take, drop, length-append}
 use lib.Seq.{sets, length-sets}
-use lib.IntN.{ℤ, pos}
+use lib.IntN.{ℤ}
 use Rattle.numbers.proofs.Lines.{line-end, line-next}
 use Rattle.numbers.proofs.Writes.{at, slice-at, slice-length}
 use Rattle.panel_text.specs.Text.{space, lineFeed, printed}
@@ -151,7 +151,7 @@ lines-first rows columns means old =
 
 module _ (rows columns : ℕ) (means : List ℤ) (old new : List ℕ) (place lo i : ℕ) (asked : LinesRoom rows columns means old) (u : LinesUpto rows columns means old new place lo i) where
   module _ (h : i < rows) where
-    pub row-inside : lo + columns ≤ rows * columns
+    row-inside : lo + columns ≤ rows * columns
     row-inside = omega (arith, u .row, line-end i rows columns h)
 
     pub row-part : lo + columns ≤ length means

@@ -1,13 +1,13 @@
 -- The runs of a text from a place on: past a divider, as a run grows, and where it ends.
 -- Assumes nothing.
 use mathlib.Core.Path.{_≡_, refl, sym, _∙_, ap}
-use Prim.Native.Nat.{ℕ, zero, suc, _+_, _-_, _≤_, _<_}
+use Prim.Native.Nat.{ℕ, suc, _+_, _-_, _≤_, _<_}
 use native.Mathlib.Numerals.{add-one}
 use native.Mathlib.Omega.{arith}
 use mathlib.Core.Bool.{Bool, true, false}
 use mathlib.Core.List.{List, [], _∷_, _++_}
 use lib.ListN.{length, getD, take, drop, length-take, length-drop, drop-of-length-le}
-use lib.Seq.{take-suc, drop-cons, getD-drop, length-take-le}
+use lib.Seq.{take-suc, drop-cons, getD-drop}
 use Rattle.panel_text.specs.Text.{divides, ended, runsFrom, runs}
 use Rattle.panel_text.specs.Scan.{InRun, RunEnd}
 

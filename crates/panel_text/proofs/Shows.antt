@@ -1,18 +1,18 @@
 -- A picture that was taken is not refused by smoothing, and its lines are what panel shows; an output that stands at the front of its area.
 -- Assumes nothing.
-use mathlib.Core.Path.{_≡_, refl, sym, _∙_, ap, subst}
-use Prim.Native.Nat.{ℕ, _+_, _*_, _≤_, _<_}
+use mathlib.Core.Path.{_≡_, sym, _∙_, ap, subst}
+use Prim.Native.Nat.{ℕ, _+_, _≤_, _<_}
 use native.Mathlib.Omega.{arith}
 use borrow.Author.Tests.{lt-ltb, le-ltb}
-use mathlib.Core.Bool.{Bool, true, false, not, _&&_}
-use mathlib.Core.List.{List, [], _∷_, _++_}
+use mathlib.Core.Bool.{Bool, true, false}
+use mathlib.Core.List.{List, _++_}
 use mathlib.Core.Option.{none}
-use lib.Dec.{T, leb, ltb, eqb}
+use lib.Dec.{T, leb, ltb}
 use lib.ListN.{length, take, drop, length-append}
-use lib.Seq.{take-at, length-take-le, sets, sets-eq}
-use lib.IntN.{ℤ, pos}
+use lib.Seq.{take-at, length-take-le, sets-eq}
+use lib.IntN.{ℤ}
 use Rattle.numbers.proofs.Tests.{and-left, not-of}
-use Rattle.picture.specs.Refusal.{Outcome, Filling, refused, answered, refusal}
+use Rattle.picture.specs.Refusal.{Filling, refusal}
 use Rattle.picture.specs.declared.Size.{Size}
 use Rattle.picture.specs.Size.{sizeLegal, cells}
 use Rattle.picture.specs.declared.Window.{Window}
@@ -22,14 +22,14 @@ use Rattle.smoothing.specs.Smoothing.{smoothed, smoothChecks, smoothCall}
 use Rattle.smoothing.proofs.Means.{smooth-writes}
 use Rattle.panel_text.specs.declared.read.Parsed.{Parsed}
 use Rattle.panel_text.specs.declared.read.Parsed.the-variants.{Refused, Taken}
-use Rattle.panel_text.specs.Panel.{Drawing, panelSize, linesOf, refusedLine, parsed, shown, panel}
+use Rattle.panel_text.specs.Panel.{panelSize, linesOf, refusedLine, parsed, shown, panel}
 use Rattle.panel_text.specs.Read.{drawn}
-use Rattle.panel_text.specs.Print.{Written, Fitted, valueAt, LinesRoom, Showable}
+use Rattle.panel_text.specs.Print.{Fitted, valueAt, LinesRoom, Showable}
 use Rattle.panel_text.specs.Rendered.{Rendering, rendered}
 use Rattle.panel_text.proofs.Legal.{parsed-legal}
 use Rattle.panel_text.proofs.Drawings.{cells-few, cells-part}
 
-in-size : (z : Size) → T (panelSize z) → T (sizeLegal z)
+pub in-size : (z : Size) → T (panelSize z) → T (sizeLegal z)
 unfolding panelSize
 in-size z t = and-left (sizeLegal z) (leb (cells z) 4096) t
 
@@ -105,10 +105,9 @@ module _ (text old : List ℕ) where
         let b : shown (drawn x levels) ≡ panel text = ap (λ (y : Parsed). shown (drawn y levels)) (sym is) ∙ sym panel-is in
         let g : Fitted (panel text) old 0 new end = subst (λ (l : List ℕ). Fitted l old 0 new end) b f in
         let n : end ≡ length (panel text) = omega (arith, g .written .place) in
-        let z : 0 + length (panel text) ≡ length (panel text) = omega arith in (
-          n ∙ sym (ap (λ (r : Rendering). r .count) e),
-          g .written .area ∙ sets-eq (panel text) old 0 (omega (arith, g .inside)) ∙ ap (λ (k : ℕ). panel text ++ drop k old) z ∙ sym (ap (λ (r : Rendering). r .area) e),
-        )
+        let z : 0 + length (panel text) ≡ length (panel text) = omega arith in
+        let a : new ≡ rendered text old .area = g .written .area ∙ sets-eq (panel text) old 0 (omega (arith, g .inside)) ∙ ap (λ (k : ℕ). panel text ++ drop k old) z ∙ sym (ap (λ (r : Rendering). r .area) e) in
+        (n ∙ sym (ap (λ (r : Rendering). r .count) e), a)
 
 pub refused-fitted : (n : ℕ) (levels : List ℤ) (old new : List ℕ) (end : ℕ) → Fitted (refusedLine n) old 0 new end → Fitted (shown (drawn (Refused n) levels)) old 0 new end
 unfolding shown

@@ -1,13 +1,12 @@
 -- "The program panel": from the bytes of its input to the bytes of its output.
 -- Assumes nothing.
 use Prim.Native.Nat.{ℕ, zero, suc, _+_, _*_}
-use mathlib.Core.Bool.{Bool, true, false, not, _&&_, _||_}
+use mathlib.Core.Bool.{Bool, true, false, _&&_}
 use mathlib.Core.List.{List, [], _∷_, _++_, map}
 use mathlib.Core.Option.{Option, none, some}
-use lib.Dec.{leb, ltb, eqb}
+use lib.Dec.{leb, ltb}
 use lib.ListN.{length, getD}
-use lib.IntN.{ℤ, pos, negsuc, natAbs}
-use lib.Signed.{leZ}
+use lib.IntN.{ℤ, pos, negsuc}
 use Rattle.picture.specs.Refusal.{Outcome, refused, answered}
 use Rattle.picture.specs.declared.Window.{Window}
 use Rattle.picture.specs.Window.{window, windowLegal, between}

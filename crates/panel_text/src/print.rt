@@ -1,11 +1,10 @@
 // From numbers to bytes: decimal digits, a line of means, all lines, and the line of a refusal. Each writes from a place of the
 // area on and answers the place after it.
-ghost use Prim.Native.Nat.{_+_, _*_, _≤_};
+ghost use Prim.Native.Nat.{_+_, _≤_};
 ghost use mathlib.Core.List.{_∷_, [], _++_};
-ghost use lib.ListN.{length, getD};
-ghost use lib.IntN.{pos};
+ghost use lib.ListN.{length};
 ghost use Rattle.panel_text.specs.Text.{decimal, printed};
-ghost use Rattle.panel_text.specs.Panel.{lineOf, linesOf, refusedLine};
+ghost use Rattle.panel_text.specs.Panel.{linesOf, refusedLine};
 ghost use Rattle.panel_text.specs.Print.{Written, Fitted, LineRoom, LineWritten, LinesRoom, valueAt};
 
 // The decimal digits of n.

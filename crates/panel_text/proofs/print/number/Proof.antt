@@ -3,7 +3,7 @@ use borrow.Author.Needs.{needs}
 use mathlib.Core.Path.{_≡_, sym, _∙_, ap}
 use native.Mathlib.Omega.{arith}
 use mathlib.Core.List.{_∷_, []}
-use lib.ListN.{length, set, length-set}
+use lib.ListN.{length, length-set}
 use lib.IntN.{natAbs}
 use mir.Facts.{toZ-ofZ}
 use Rattle.numbers.proofs.Widths.{fits-16-64}

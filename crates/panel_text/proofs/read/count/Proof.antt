@@ -1,5 +1,4 @@
 -- `panel_text::read::count` meets its contract. Assumes nothing.
-use borrow.Author.Needs.{needs}
 use mir.Facts.{toZ-ofZ}
 use Rattle.panel_text.proofs.Drawings.{count-negative, count-signed, count-small, count-is}
 use Rattle.panel_text.proofs.read.count.Statement.{statement}

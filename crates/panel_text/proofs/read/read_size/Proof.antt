@@ -1,15 +1,10 @@
 -- `panel_text::read::read_size` meets its contract. Assumes nothing.
 use borrow.Author.Needs.{needs}
-use mathlib.Core.Path.{_≡_, sym, _∙_, ap}
-use mathlib.Core.List.{_∷_}
-use mathlib.Core.Option.{some}
+use mathlib.Core.Path.{sym, _∙_}
 use borrow.Author.Tests.{not-true, not-false}
 use mir.Facts.{toZ-ofZ}
 use mir.Syntax.{w32}
 use mir.Val.{SFits}
-use Rattle.numbers.proofs.Tests.{holds-of}
-use Rattle.panel_text.specs.Panel.{countOf}
-use Rattle.panel_text.specs.Scan.{numbersFrom, told}
 use Rattle.panel_text.proofs.Drawings.{no-rows, no-columns, size-beyond, size-within}
 use Rattle.panel_text.proofs.read.read_size.Statement.{statement}
 use Rattle.panel_text.proofs.read.read_size.Tie as tie

@@ -1,10 +1,8 @@
 -- `panel_text::read::read_window` meets its contract. Assumes nothing.
 use borrow.Author.Needs.{needs}
-use mathlib.Core.Path.{_≡_, sym, _∙_, ap}
 use mir.Facts.{toZ-ofZ}
 use mir.Syntax.{w32}
 use mir.Val.{SFits}
-use Rattle.panel_text.specs.Scan.{numbersFrom, told}
 use Rattle.panel_text.proofs.Drawings.{no-shape, no-first, no-second, window-read}
 use Rattle.panel_text.proofs.read.read_window.Statement.{statement}
 use Rattle.panel_text.proofs.read.read_window.Tie as tie

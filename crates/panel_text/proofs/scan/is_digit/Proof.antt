@@ -1,5 +1,4 @@
 -- `panel_text::scan::is_digit` meets its contract. Assumes nothing.
-use borrow.Author.Needs.{needs}
 use borrow.Author.Tests.{lt-leb, le-leb}
 use Rattle.panel_text.specs.Text.{isDigit}
 use Rattle.panel_text.proofs.scan.is_digit.Statement.{statement}

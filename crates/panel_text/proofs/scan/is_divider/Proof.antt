@@ -1,5 +1,4 @@
 -- `panel_text::scan::is_divider` meets its contract. Assumes nothing.
-use borrow.Author.Needs.{needs}
 use borrow.Author.Tests.{eq-eqb, ne-eqb}
 use Rattle.panel_text.specs.Text.{divides}
 use Rattle.panel_text.proofs.scan.is_divider.Statement.{statement}
