@@ -5,7 +5,6 @@ ghost use Prim.Native.Nat.{_+_, _-_, _≤_};
 ghost use lib.ListN.{length};
 ghost use Rattle.numbers.specs.Grid.{tabulate};
 ghost use Rattle.across.specs.Across.{neighbourSum, rangeSum, Written, EnteringAsked, SlidingAsked, LeavingAsked};
-use picture::plane;
 
 // The wrapped sum of the first n numbers.
 fn total(work: &[i64], n: usize) -> i64
@@ -74,7 +73,7 @@ pub fn across(work: &[i64], b: usize, out: &mut [i64])
     let n = work.len();
     if n <= b {
         let all = total(work, n);
-        plane::fill(out, all);
+        planes::fill(out, all);
         return;
     }
     let start = total(work, b);
@@ -82,7 +81,7 @@ pub fn across(work: &[i64], b: usize, out: &mut [i64])
     let left = b + 1;
     if right <= left {
         let all = entering(work, b, right, start, out);
-        plane::fill(&mut out[right..left], all);
+        planes::fill(&mut out[right..left], all);
         leaving(work, b, left, all, out);
         return;
     }

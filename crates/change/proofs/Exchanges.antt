@@ -17,10 +17,10 @@ use Rattle.numbers.proofs.Tests.{and-left, and-right}
 use Rattle.numbers.proofs.Grids.{tabulate-cong}
 use Rattle.numbers.proofs.Sums.{pick-yes, pick-no}
 use Rattle.numbers.proofs.Writes.{at, is-tabulate, tabulate-at, part-before, part-within, part-after, part-length, slice-at, at-past}
-use Rattle.picture.specs.declared.plane.Overlap.{Overlap}
+use Rattle.planes.specs.declared.Overlap.{Overlap}
 use Rattle.picture.specs.Picture.{Source, planeValue, planeAt}
-use Rattle.picture.specs.Overlaps.{Overlapping}
-use Rattle.picture.proofs.RowParts.{plane-1, plane-2, plane-3, plane-4, plane-5, tabulate-as}
+use Rattle.planes.specs.Overlaps.{Overlapping}
+use Rattle.planes.proofs.RowParts.{plane-1, plane-2, plane-3, plane-4, plane-5, tabulate-as}
 use Rattle.change.specs.declared.line.Line.{Line}
 use Rattle.change.specs.Lines.{lineOf, lineValue, changeValue, Numbers, Lies}
 use Rattle.change.proofs.LineValues.{line-value, column-outside}

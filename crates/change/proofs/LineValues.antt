@@ -15,11 +15,11 @@ use Rattle.numbers.proofs.Tests.{and-left, and-right, and-both, off, same-test}
 use Rattle.numbers.proofs.Sums.{pick-yes, pick-no}
 use Rattle.picture.proofs.Refusals.{InLimits}
 use Rattle.picture.specs.declared.Size.{Size}
-use Rattle.picture.specs.declared.plane.Overlap.{Overlap}
+use Rattle.planes.specs.declared.Overlap.{Overlap}
 use Rattle.picture.specs.Size.{inRange, inside, cells}
 use Rattle.picture.specs.Picture.{Source, planeValue, counts, planeAt, levelOf, otherOf}
-use Rattle.picture.specs.Overlaps.{Overlapping}
-use Rattle.picture.proofs.RowParts.{row-end, other-inside}
+use Rattle.planes.specs.Overlaps.{Overlapping}
+use Rattle.planes.proofs.RowParts.{row-end, other-inside}
 use Rattle.change.specs.declared.line.Line.{Line}
 use Rattle.change.specs.Lines.{line, lineOf, lineValue, Span, Lies}
 

@@ -10,7 +10,7 @@ use lib.IntN.{ℤ, pos, _-ℤ_}
 use Rattle.numbers.specs.Sum.{pick}
 use Rattle.numbers.specs.Wrap.{wrap}
 use Rattle.picture.specs.declared.Size.{Size}
-use Rattle.picture.specs.declared.plane.Overlap.{Overlap}
+use Rattle.planes.specs.declared.Overlap.{Overlap}
 use Rattle.picture.specs.Size.{sizeLegal, cells}
 use Rattle.picture.specs.Picture.{planeValue}
 use Rattle.change.specs.declared.line.Line.{Line}

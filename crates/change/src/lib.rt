@@ -9,7 +9,6 @@ ghost use Rattle.picture.specs.Picture.{source, planeAt};
 ghost use Rattle.change.specs.Lines.{ExchangeAsked, Numbers};
 use picture::Shift;
 use picture::Size;
-use picture::plane as planes;
 
 mod line; // line.rt: where the counting cells of a row stand in the pictures
 mod values; // values.rt: the values of two rows, plane by plane

@@ -8,7 +8,7 @@ ghost use Rattle.numbers.specs.Wrap.{wrap};
 ghost use Rattle.change.specs.Lines.{LineAsked, lineOf, lineValue, LinesAsked};
 use super::values;
 use picture::Size;
-use picture::plane::Overlap;
+use planes::Overlap;
 
 // A row of a plane: whether its cells count, and where the first that counts stands in f and in g.
 pub struct Line {

@@ -6,5 +6,3 @@ pub mod Conditions
 pub mod Direct
 pub mod Offsets
 pub mod Answers
-pub mod Overlaps
-pub mod Summing

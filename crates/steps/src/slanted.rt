@@ -17,7 +17,6 @@ use picture::Shift;
 use picture::Size;
 use picture::Window;
 use picture::clip;
-use picture::direct;
 use picture::shape;
 
 // Row 0: the window sums, each by itself.

@@ -10,7 +10,6 @@ ghost use Rattle.session.specs.Rows.{enterLeave};
 ghost use Rattle.steps.specs.Asked.{RowAsked};
 use picture::Shift;
 use picture::Size;
-use picture::plane as planes;
 
 // From row i to i+1, at half height d: the row d rows below enters the sums, and the row d rows above leaves them.
 pub fn add_gain(

@@ -47,13 +47,13 @@ pub fn whole(size: Size, f: &[i16], g: &[i16], shift: Shift, plane: u32, table: 
 {
     let rows = size.rows;
     let columns = size.columns;
-    picture::plane::part(size, f, g, shift, plane, 0, 0, &mut table[..columns]);
+    planes::part(size, f, g, shift, plane, 0, 0, &mut table[..columns]);
     first_row(columns, table);
     let mut i = 1;
     let mut start = columns;
     while i < rows {
         let end = start + columns;
-        picture::plane::part(size, f, g, shift, plane, i, 0, &mut table[start..end]);
+        planes::part(size, f, g, shift, plane, i, 0, &mut table[start..end]);
         next_row(columns, start, table);
         start = end;
         i += 1;

@@ -9,9 +9,9 @@ use mir.Facts.{toZ-ofZ}
 use mir.Syntax.{w32}
 use mir.Val.{SFits}
 use Rattle.numbers.proofs.Writes.{slice-length, part-length}
-use Rattle.picture.specs.declared.plane.Overlap.{Overlap}
+use Rattle.planes.specs.declared.Overlap.{Overlap}
 use Rattle.picture.specs.Picture.{Source, source}
-use Rattle.picture.specs.Overlaps.{Overlapping}
+use Rattle.planes.specs.Overlaps.{Overlapping}
 use Rattle.picture.proofs.Refusals.{in-limits}
 use Rattle.change.specs.Lines.{lineOf, Span, Lies}
 use Rattle.change.proofs.LineValues.{line-lies}

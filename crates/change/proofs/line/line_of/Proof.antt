@@ -5,7 +5,7 @@ use borrow.Author.Needs.{needs}
 use lib.Dec.{leb, ltb, leb→le, ltb→lt}
 use Rattle.numbers.proofs.Tests.{and-left, and-right}
 use Rattle.picture.proofs.Refusals.{in-limits}
-use Rattle.picture.proofs.RowParts.{other-inside}
+use Rattle.planes.proofs.RowParts.{other-inside}
 use Rattle.change.proofs.LineValues.{line-none, line-some, row-start}
 use Rattle.change.proofs.line.line_of.Statement.{statement}
 use Rattle.change.proofs.line.line_of.Tie as tie
