@@ -116,7 +116,7 @@ pub fn cell_inside(size: Size, cell: Cell) -> bool
     column < columns
 }
 
-// The length of an area is rows times columns, of a size within limits.
+// The length of an area is rows times columns. For callers that have checked the size.
 pub fn is_full(size: Size, length: usize) -> bool
     requires { ⌜ T (sizeLegal size) ⌝ }
     ensures { λ r. ⌜ r ≡ eqb length (cells size) ⌝ }

@@ -217,9 +217,6 @@ near-back x d q p h =
         let y : natAbs (t -ℤ w) ≡ d = top-end (t -ℤ w) d (omega (arith, sub-lawℤ t w)) in
         absurd (omega (arith, ofLe (h .larger y)))
 
-pub near-unique : (x : ℤ) (d : ℕ) (q q' : ℤ) → 0 < d → Near x d q → Near x d q' → q ≡ q'
-near-unique x d q q' p h h' = nearest-unique x d q q' p (near-back x d q p h) (near-back x d q' p h')
-
 -- one whole root
 pub root-over-unique : (n d c c' : ℕ) → IsRootOver n d c → IsRootOver n d c' → c ≡ c'
 root-over-unique n d c c' h h' = go (native.Mathlib.Decide.decLt c c') (native.Mathlib.Decide.decLt c' c)

@@ -157,17 +157,6 @@ unfolding pick
 pick-bound true x = omega arith
 pick-bound false x = omega arith
 
--- the values from lo up to hi
-pub sum-between : (n lo hi : ℕ) (f : ℕ → ℤ) → lo ≤ hi → sumTo n (λ k. pick (leb lo k && ltb k hi) (f k)) ≡ sumTo (min hi n) f -ℤ sumTo (min lo n) f
-sum-between n lo hi f h = simp (between, sum-sub, sum-prefix)
-  where
-    between : (k : ℕ) (x : ℤ) → pick (leb lo k && ltb k hi) x ≡ pick (ltb k hi) x -ℤ pick (ltb k lo) x
-    between k x = pick-diff (leb lo k && ltb k hi) (ltb k hi) (ltb k lo) x
-        (λ t. and-right (leb lo k) (ltb k hi) t)
-        (λ t u. omega (arith, leb→le lo k (and-left (leb lo k) (ltb k hi) t), ltb→lt))
-        (λ t u. and-both (leb lo k) (ltb k hi) (omega (arith, nltb→le, le→leb)) t)
-        (λ t. omega (arith, ltb→lt, lt→ltb))
-
 -- the values from lo up to hi, as their own sum
 pub sum-range : (lo hi : ℕ) (f : ℕ → ℤ) → lo ≤ hi → sumTo hi f -ℤ sumTo lo f ≡ sumTo (hi - lo) (λ k. f (lo + k))
 sum-range lo hi f h =

@@ -224,9 +224,6 @@ accepted-has x e1 =
       plane = none-head 5 c5 [] e5;
     }
 
-pub plane-at-most-5 : (p : ℕ) → ltb 5 p ≡ false → p ≤ 5
-plane-at-most-5 p e = nltb→le 5 p (rw e tt)
-
 -- "Checks run in number order, each where the call has that input": the direct sum has 1 to 6, 2 for each picture
 pub direct-order : (x : Inputs) (i j : ℕ) → numbersOf (directChecks x i j) ≡ 1 ∷ 2 ∷ 2 ∷ 3 ∷ 4 ∷ 5 ∷ 6 ∷ []
 unfolding numbersOf
