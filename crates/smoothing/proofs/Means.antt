@@ -130,12 +130,12 @@ smoothed-at z f w i j hi hj = getD-grid (z .rows) (z .columns) i j (λ i j. mean
 pub smooth-writes : (z : Size) (f : List ℤ) (w : Window) (output : List ℤ) → refusal (smoothChecks z f w output) ≡ none →
     smoothCall z f w output ≡ record { answer = answered tt; area = smoothed z f w }
 unfolding smoothCall
-smooth-writes z f w output e = filling-none (refusal (smoothChecks z f w output)) output (smoothed z f w) e
+smooth-writes z f w output e = filling-none _ _ _ e
 
 pub smooth-keeps : (z : Size) (f : List ℤ) (w : Window) (output : List ℤ) (n : ℕ) → refusal (smoothChecks z f w output) ≡ some n →
     smoothCall z f w output ≡ record { answer = refused n; area = output }
 unfolding smoothCall
-smooth-keeps z f w output n e = filling-some (refusal (smoothChecks z f w output)) output (smoothed z f w) n e
+smooth-keeps z f w output n e = filling-some _ _ _ n e
 
 -- "Checks run in number order, each where the call has that input"
 pub smooth-order : (z : Size) (f : List ℤ) (w : Window) (output : List ℤ) → numbersOf (smoothChecks z f w output) ≡ 1 ∷ 2 ∷ 3 ∷ 8 ∷ []

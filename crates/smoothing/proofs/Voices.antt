@@ -1,6 +1,6 @@
 -- The voice answer of a cell: it is never refused, and N, S and A alone decide it.
 -- Assumes nothing.
-use mathlib.Core.Path.{_≡_, refl, _∙_, ap}
+use mathlib.Core.Path.{_≡_, refl, sym, _∙_, ap}
 use mathlib.Core.Bool.{Bool, false}
 use Prim.Native.Nat.{ℕ, _<_}
 use native.Mathlib.Omega.{arith}
@@ -15,9 +15,11 @@ use Rattle.picture.specs.Picture.{Inputs}
 use Rattle.picture.specs.Direct.{directSum}
 use Rattle.rows.specs.Asked.{Checked}
 use Rattle.statistics.specs.declared.Sums.{Sums}
+use Rattle.statistics.specs.declared.Voice as declared
 use Rattle.statistics.specs.SixSums.{onPlane, sixSums, impossible}
 use Rattle.statistics.specs.Moments.{mean, deviation}
 use Rattle.statistics.specs.Voice.{Voice, voice, voiceCall}
+use Rattle.statistics.specs.Answers.{voiceOf}
 use Rattle.statistics.proofs.Bounds.{possible-has, possible-of, answers}
 use Rattle.statistics.proofs.Possible.{sums-possible}
 use Rattle.smoothing.specs.Steady.{isSteady, findCell, firstSteady}
@@ -49,23 +51,6 @@ possible-first z e =
       schwarz = simp *ℤ-zero (≤ℤ-refl (pos 0));
     })
 
--- ---- from rows of N, S and A
-module _ (x : Inputs) (c : Checked x) (i j : ℕ) (n s a : List ℤ) (inside : j < x .source .size .columns)
-    (n-is : n ≡ tabulate (x .source .size .columns) (directSum (onPlane x 0) i))
-    (s-is : s ≡ tabulate (x .source .size .columns) (directSum (onPlane x 1) i))
-    (a-is : a ≡ tabulate (x .source .size .columns) (directSum (onPlane x 3) i)) where
-  at-cell : (k : ℕ) (l : List ℤ) → l ≡ tabulate (x .source .size .columns) (directSum (onPlane x k) i) → at l j ≡ directSum (onPlane x k) i j
-  at-cell k l e = ap (λ (m : List ℤ). at m j) e ∙ getD-tabulate (x .source .size .columns) j (directSum (onPlane x k) i) (pos 0) inside
-
-  sums-are : firstSums (at n j) (at s j) (at a j) ≡ firstSums (sixSums x i j .n) (sixSums x i j .s) (sixSums x i j .a)
-  sums-are = rw (at-cell 0 n n-is, at-cell 1 s s-is, at-cell 3 a a-is)
-
-  pub row-possible : impossible (firstSums (at n j) (at s j) (at a j)) ≡ false
-  row-possible = ap impossible sums-are ∙ possible-first (sixSums x i j) (sums-possible x (c .levels-f) (c .levels-g) (c .window) i j)
-
-  pub row-voice : voice (firstSums (at n j) (at s j) (at a j)) ≡ voice (sixSums x i j)
-  row-voice = ap voice sums-are ∙ voice-first (sixSums x i j)
-
 -- ---- the public answer
 module _ (x : Inputs) (c : Checked x) where
   pub cell-possible : (i j : ℕ) → impossible (sixSums x i j) ≡ false
@@ -84,3 +69,21 @@ answersSteady (answered v) = isSteady v
 pub first-by-answers : (x : Inputs) → Checked x → firstSteady x ≡ findCell (λ i j. answersSteady (voiceCall (sixSums x i j))) (x .source .size .columns) 0 (x .source .size .rows)
 unfolding firstSteady
 first-by-answers x c = simp (voice-answers x c)
+
+-- ---- from rows of N, S and A
+module _ (x : Inputs) (c : Checked x) (i j : ℕ) (n s a : List ℤ) (inside : j < x .source .size .columns)
+    (n-is : n ≡ tabulate (x .source .size .columns) (directSum (onPlane x 0) i))
+    (s-is : s ≡ tabulate (x .source .size .columns) (directSum (onPlane x 1) i))
+    (a-is : a ≡ tabulate (x .source .size .columns) (directSum (onPlane x 3) i)) where
+  at-cell : (k : ℕ) (l : List ℤ) → l ≡ tabulate (x .source .size .columns) (directSum (onPlane x k) i) → at l j ≡ directSum (onPlane x k) i j
+  at-cell k l e = ap (λ (m : List ℤ). at m j) e ∙ getD-tabulate (x .source .size .columns) j (directSum (onPlane x k) i) (pos 0) inside
+
+  sums-are : firstSums (at n j) (at s j) (at a j) ≡ firstSums (sixSums x i j .n) (sixSums x i j .s) (sixSums x i j .a)
+  sums-are = rw (at-cell 0 n n-is, at-cell 1 s s-is, at-cell 3 a a-is)
+
+  pub row-possible : impossible (firstSums (at n j) (at s j) (at a j)) ≡ false
+  row-possible = ap impossible sums-are ∙ possible-first (sixSums x i j) (cell-possible x c i j)
+
+  -- what is heard of those numbers is the voice of the cell
+  pub row-steady : (v : declared.Voice) → voiceOf v ≡ voice (firstSums (at n j) (at s j) (at a j)) → isSteady (voice (sixSums x i j)) ≡ isSteady (voiceOf v)
+  row-steady v e = ap isSteady (sym (e ∙ ap voice sums-are ∙ voice-first (sixSums x i j)))

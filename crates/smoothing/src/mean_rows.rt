@@ -30,7 +30,7 @@ fn row_means(n: &[i64], s: &[i64], out: &mut [i16])
     }
 }
 
-// The means of every row; the others are room for a row each.
+// The means of every row; counts, totals, n and s are room for a row each.
 fn every_row(
     size: Size,
     f: &[i16],

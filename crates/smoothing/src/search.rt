@@ -21,7 +21,7 @@ use statistics::Sums;
 use statistics::Voice;
 use statistics::VoiceAnswer;
 
-// The voice answer of a cell. The sums of g have no part in it, and stand at 0.
+// The voice answer to the sums of a cell, which are never refused. Those of g have no part in it, and stand at 0.
 fn heard(n: i64, s: i64, a: i64) -> Voice
     requires { ⌜ impossible (firstSums n s a) ≡ false ⌝ }
     ensures { λ r. ⌜ voiceOf r ≡ voice (firstSums n s a) ⌝ }
@@ -40,7 +40,7 @@ fn heard(n: i64, s: i64, a: i64) -> Voice
     }
 }
 
-// "the first cell in row order whose voice answer is Steady"; the others are room for a row each.
+// "the first cell in row order whose voice answer is Steady"; the areas are room for a row each.
 fn first(
     size: Size,
     f: &[i16],

@@ -16,7 +16,7 @@ use super::WholeAnswer;
 use super::central::central_moments;
 
 // The whole number nearest to x / d, a half going up: (2x + d) / 2d, rounded down. Division is toward zero, so it is one too large where the
-// remainder is negative.
+// remainder is negative. For callers that have checked their inputs.
 pub fn nearest(x: i64, d: u64) -> i64
     requires { ⌜ Quotient x d ⌝ }
     ensures { λ r. ⌜ r ≡ nearest x d ⌝ }

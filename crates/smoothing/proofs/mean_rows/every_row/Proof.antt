@@ -22,8 +22,8 @@ use Rattle.smoothing.proofs.mean_rows.every_row.Tie as tie
 abbrev Inv-loop : tie.InvT-loop
 Inv-loop size f window counts₀ totals₀ n₀ s₀ out₀ rows columns still i₀ start₀ counts totals n s out i start =
     let x = alone size f window in
-    (i ≤ rows) × (start ≡ i * columns) × (length counts ≡ columns) × (length totals ≡ columns) × (length n ≡ columns) × (length s ≡ columns) × (length out ≡ length out₀)
-    × ready (onPlane x 0) i counts × ready (onPlane x 1) i totals × Lines (λ i j. mean (sixSums x i j)) columns out i
+    Lines (λ i j. mean (sixSums x i j)) columns out i × (start ≡ i * columns) × (length counts ≡ columns) × (length totals ≡ columns) × (length n ≡ columns) × (length s ≡ columns) × (length out ≡ length out₀)
+    × ready (onPlane x 0) i counts × ready (onPlane x 1) i totals × (i ≤ rows)
 
 abbrev μ-loop : tie.MeasureT-loop
 μ-loop size f window counts₀ totals₀ n₀ s₀ out₀ rows columns still i₀ start₀ counts totals n s out i start = rows - i
@@ -39,7 +39,18 @@ ends c =
     omega (arith, l .inv .1, l .inv .6, s .pre .picture .full, line-end (l .i) (s .args .size .rows) (s .args .size .columns) (c .loop-test .taken))
 
 loop-holds : tie.Need-loop-holds Inv-loop μ-loop
-loop-holds c = (omega arith, omega arith, c .pre .room-counts, c .pre .room-totals, c .pre .room-n, c .pre .room-s, refl, tt, tt, lines-none (λ i j. mean (sixSums (given c) i j)) (c .args .size .columns) (c .args .out .now))
+loop-holds c = (
+  lines-none (λ i j. mean (sixSums (given c) i j)) (c .args .size .columns) (c .args .out .now),
+  omega arith,
+  c .pre .room-counts,
+  c .pre .room-totals,
+  c .pre .room-n,
+  c .pre .room-s,
+  refl,
+  tt,
+  tt,
+  omega arith,
+)
 
 add-end : tie.Need-add-end Inv-loop μ-loop
 add-end c = omega (arith, ends c, c .before .loop .inv .6)
@@ -114,7 +125,8 @@ loop-again c =
     let summed = c .before .before .before .before .before .before .before .next2 in
     let row = c .before .row-means in
     let i = l .i in (
-      omega (arith, t .loop-test .taken),
+      put-line (λ i j. mean (sixSums (given s) i j)) (z .columns) i (l .start) (l .out) (row .last .1 .1 .0) (l .inv .0) (l .inv .1) (ends t) (row .kept .1 .1 .0 ∙ room t)
+          (row-mean z (s .args .f .now) (s .args .window) (s .pre .picture .inputs) i (t .loop-test .taken) _ _ _ (counted .ensures .sums) (summed .ensures .sums) (room t) (row .last .1 .1 .0) (row .ensures)),
       omega (arith, l .inv .1, line-next i (z .columns)),
       counted .kept .1 .1 .1 .1 .1 .1 .1 .0 ∙ l .inv .2,
       summed .kept .1 .1 .1 .1 .1 .1 .1 .0 ∙ l .inv .3,
@@ -123,8 +135,7 @@ loop-again c =
       c .out .given .1 ∙ l .inv .6,
       subst (λ (k : ℕ). ready (onPlane (given s) 0) k (counted .last .1 .1 .1 .1 .1 .1 .1 .0)) (sym (add-one i)) (counted .ensures .left),
       subst (λ (k : ℕ). ready (onPlane (given s) 1) k (summed .last .1 .1 .1 .1 .1 .1 .1 .0)) (sym (add-one i)) (summed .ensures .left),
-      put-line (λ i j. mean (sixSums (given s) i j)) (z .columns) i (l .start) (l .out) (row .last .1 .1 .0) (l .inv .9) (l .inv .1) (ends t) (row .kept .1 .1 .0 ∙ room t)
-          (row-mean z (s .args .f .now) (s .args .window) (s .pre .picture .inputs) i (t .loop-test .taken) _ _ _ (counted .ensures .sums) (summed .ensures .sums) (room t) (row .last .1 .1 .0) (row .ensures)),
+      omega (arith, t .loop-test .taken),
     )
 
 same-length : tie.Need-same-length Inv-loop μ-loop
@@ -148,8 +159,8 @@ returns c =
     let s = c .before .before in
     let l = c .before .loop in
     let z = s .args .size in
-    let e : l .i ≡ z .rows = omega (arith, l .inv .0, c .loop-test .left) in
-    lines-all (λ i j. mean (sixSums (given s) i j)) (z .columns) (l .out) (z .rows) (rw e at (l .inv .9)) (l .inv .6 ∙ s .pre .picture .full)
+    let e : l .i ≡ z .rows = omega (arith, l .inv .9, c .loop-test .left) in
+    lines-all (λ i j. mean (sixSums (given s) i j)) (z .columns) (l .out) (z .rows) (rw e at (l .inv .0)) (l .inv .6 ∙ s .pre .picture .full)
 
 pub every-row-spec : {M : Type 1} → statement M
 every-row-spec =

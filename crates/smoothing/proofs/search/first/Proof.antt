@@ -29,7 +29,7 @@ use Rattle.statistics.proofs.Voice.{the-type}
 use Rattle.smoothing.specs.Steady.{isSteady, findColumn, findCell, firstSteady}
 use Rattle.smoothing.specs.Inner.{ready}
 use Rattle.smoothing.proofs.RowSums.{on-plane}
-use Rattle.smoothing.proofs.Voices.{row-possible, row-voice}
+use Rattle.smoothing.proofs.Voices.{row-possible, row-steady}
 use Rattle.smoothing.proofs.Searching.{steadyAt, whole-row, whole-search, column-passed, column-found, no-column, row-passed, row-found, no-row}
 use Rattle.smoothing.proofs.search.first.Statement.{statement}
 use Rattle.smoothing.proofs.search.first.Tie as tie
@@ -37,7 +37,7 @@ use Rattle.smoothing.proofs.search.first.Tie as tie
 abbrev Inv-loop : tie.InvT-loop
 Inv-loop size f g window shift counts totals squares n s a rows columns i j₀ j =
     let test = steadyAt (inputs size f g window shift 0) i in
-    (j ≤ columns) × (findColumn test j (columns - j) ≡ findColumn test 0 columns)
+    findColumn test j (columns - j) ≡ findColumn test 0 columns
 
 abbrev μ-loop : tie.MeasureT-loop
 μ-loop size f g window shift counts totals squares n s a rows columns i j₀ j = columns - j
@@ -45,9 +45,8 @@ abbrev μ-loop : tie.MeasureT-loop
 abbrev Inv-search : tie.InvT-search
 Inv-search size f g window shift counts₀ totals₀ squares₀ n₀ s₀ a₀ rows columns i₀ j₀ counts totals squares n s a i j =
     let x = inputs size f g window shift 0 in
-    (i ≤ rows) × (length counts ≡ columns) × (length totals ≡ columns) × (length squares ≡ columns) × (length n ≡ columns) × (length s ≡ columns) × (length a ≡ columns)
+    (findCell (steadyAt x) columns i (rows - i) ≡ firstSteady x) × (length counts ≡ columns) × (length totals ≡ columns) × (length squares ≡ columns) × (length n ≡ columns) × (length s ≡ columns) × (length a ≡ columns)
     × ready (onPlane x 0) i counts × ready (onPlane x 1) i totals × ready (onPlane x 3) i squares
-    × (findCell (steadyAt x) columns i (rows - i) ≡ firstSteady x)
 
 abbrev μ-search : tie.MeasureT-search
 μ-search size f g window shift counts₀ totals₀ squares₀ n₀ s₀ a₀ rows columns i₀ j₀ counts totals squares n s a i j = rows - i
@@ -67,7 +66,7 @@ narrow c =
 
 search-holds : tie.Need-search-holds Inv-loop μ-loop Inv-search μ-search
 search-holds c = (
-  omega arith,
+  whole-search (given c),
   c .pre .room-counts,
   c .pre .room-totals,
   c .pre .room-squares,
@@ -77,7 +76,6 @@ search-holds c = (
   tt,
   tt,
   tt,
-  whole-search (given c),
 )
 
 next-requires : tie.Need-next-requires Inv-loop μ-loop Inv-search μ-search
@@ -119,7 +117,7 @@ next-requires-3 c κs =
 loop-holds : tie.Need-loop-holds Inv-loop μ-loop Inv-search μ-search
 loop-holds c =
     let t = turn c in
-    (omega arith, whole-row (steadyAt (given (t .before .before)) (t .before .search .i)) (t .before .before .args .size .columns))
+    whole-row (steadyAt (given (t .before .before)) (t .before .search .i)) (t .before .before .args .size .columns)
 
 mul-heard : tie.Need-mul-heard Inv-loop μ-loop Inv-search μ-search
 mul-heard c = omega (arith, narrow (c))
@@ -173,10 +171,8 @@ cell-steady c =
     let r = c .before .before .before .before .before .before in
     let t = turn r in
     let s = t .before .before in
-    let j = column (c .before) in
-    ap isSteady
-    (sym (row-voice (given s) (s .pre .inputs) (t .before .search .i) j _ _ _ (c .before .before .before .before .loop-test .taken) (r .before .before .before .before .before .before .before .before .before .before .before .before .next .ensures .sums) (r .before .before .before .before .before .before .before .next2 .ensures .sums) (r .before .before .next3 .ensures .sums))
-    ∙ sym (simp (toZ-ofZ, fits-n (c .before), fits-s (c .before), fits-a (c .before)) at (c .heard .ensures)))
+    row-steady (given s) (s .pre .inputs) (t .before .search .i) (column (c .before)) _ _ _ (c .before .before .before .before .loop-test .taken) (r .before .before .before .before .before .before .before .before .before .before .before .before .next .ensures .sums) (r .before .before .before .before .before .before .before .next2 .ensures .sums) (r .before .before .next3 .ensures .sums) (c .heard .result)
+    (simp (toZ-ofZ, fits-n (c .before), fits-s (c .before), fits-a (c .before)) at (c .heard .ensures))
 
 -- a voice that is passed over
 passed : (v : Voice) → OneOf (0 ∷ 2 ∷ []) (tagOf the-type v) → isSteady (voiceOf v) ≡ false
@@ -202,7 +198,7 @@ loop-again c =
     let z = s .args .size in
     let below = h .before .before .before .before .loop-test .taken in
     let test = steadyAt (given s) (t .before .search .i) in
-    (omega (arith, below), sym (column-passed test (l .j) (z .columns) below (cell-steady h ∙ passed (h .heard .result) (c .match .keys2))) ∙ l .inv .1)
+    sym (column-passed test (l .j) (z .columns) below (cell-steady h ∙ passed (h .heard .result) (c .match .keys2))) ∙ l .inv
 
 add-i : tie.Need-add-i Inv-loop μ-loop Inv-search μ-search
 add-i c =
@@ -223,7 +219,7 @@ search-again c =
     let summed = r .before .before .before .before .before .before .before .next2 in
     let squared = r .before .before .next3 in
     let i = l .i in (
-      omega (arith, t .search-test .taken),
+      sym (row-passed (steadyAt (given s)) (z .columns) i (z .rows) (t .search-test .taken) (sym (c .before .loop .inv) ∙ no-column (steadyAt (given s) i) (c .before .loop .j) (z .columns) (c .loop-test .left))) ∙ l .inv .0,
       counted .kept .1 .1 .1 .1 .1 .1 .1 .0 ∙ l .inv .1,
       summed .kept .1 .1 .1 .1 .1 .1 .1 .0 ∙ l .inv .2,
       squared .kept .1 .1 .1 .1 .1 .1 .1 .0 ∙ l .inv .3,
@@ -233,7 +229,6 @@ search-again c =
       subst (λ (k : ℕ). ready (onPlane (given s) 0) k (counted .last .1 .1 .1 .1 .1 .1 .1 .0)) (sym (add-one i)) (counted .ensures .left),
       subst (λ (k : ℕ). ready (onPlane (given s) 1) k (summed .last .1 .1 .1 .1 .1 .1 .1 .0)) (sym (add-one i)) (summed .ensures .left),
       subst (λ (k : ℕ). ready (onPlane (given s) 3) k (squared .last .1 .1 .1 .1 .1 .1 .1 .0)) (sym (add-one i)) (squared .ensures .left),
-      sym (row-passed (steadyAt (given s)) (z .columns) i (z .rows) (t .search-test .taken) (sym (c .before .loop .inv .1) ∙ no-column (steadyAt (given s) i) (c .before .loop .j) (z .columns) (c .loop-test .left))) ∙ l .inv .10,
     )
 
 -- where the search is left: the room is as long as it was, and row i and column j tell the answer
@@ -247,6 +242,8 @@ record Left (x : Inputs) (counts totals squares n s a : List ℤ) (i j : ℕ) : 
   found : i < x .source .size .rows → some (cell i j) ≡ firstSteady x
   nowhere : x .source .size .rows ≤ i → none ≡ firstSteady x
 
+-- in its second case w has what the turn bound, in the order of the code: the test at 0, the rows of sums at 3, 8 and 13, the column loop and its test at 16
+-- and 17, the numbers read from 18 on, what was heard at 21 and that it is Steady at 23, and then the areas and j
 left : (c : tie.Left-search Inv-loop μ-loop Inv-search μ-search) → Left (given (c .before .before)) (c .search-test .counts) (c .search-test .totals) (c .search-test .squares) (c .search-test .n) (c .search-test .s) (c .search-test .a) (c .before .search .i) (c .search-test .j)
 left c =
     let s = c .before .before in
@@ -263,12 +260,16 @@ left c =
       room-s = ap length (w .5) ∙ l .inv .5;
       room-a = ap length (w .6) ∙ l .inv .6;
       found = λ h. absurd (omega (arith, h, w .0 .left));
-      nowhere = λ h. sym (no-row (steadyAt x) (z .columns) i (z .rows) h) ∙ l .inv .10;
+      nowhere = λ h. sym (no-row (steadyAt x) (z .columns) i (z .rows) h) ∙ l .inv .0;
     })
     (λ w.
-    let h : tie.After-heard Inv-loop μ-loop Inv-search μ-search = record { before = record { before = record { before = record { before = record { before = record { before = record { before = record { before = record { before = record { before = record { before = record { before = record { before = record { before = record { before = record { before = record { before = record { before = record { before = record { before = record { before = record { before = c .before; search-test = w .0 }; next-arg = w .1 }; next-arg2 = w .2 }; next = w .3 }; counts = w .4 }; n = w .5 }; next-arg3 = w .6 }; next-arg4 = w .7 }; next2 = w .8 }; totals = w .9 }; s = w .10 }; next-arg5 = w .11 }; next-arg6 = w .12 }; next3 = w .13 }; squares = w .14 }; a = w .15 }; loop = w .16 }; loop-test = w .17 }; heard-arg = w .18 }; heard-arg2 = w .19 }; heard-arg3 = w .20 }; heard = w .21 } in
-    let hit = column-found (steadyAt x i) (w .16 .j) (z .columns) (w .17 .taken) (cell-steady h ∙ ap (λ (v : Voice). isSteady (voiceOf v)) (w .23 .given .1)) in
-    let row = row-found (steadyAt x) (z .columns) i (z .rows) (w .16 .j) (w .0 .taken) (sym (w .16 .inv .1) ∙ hit) in
+    let j = w .16 .j in
+    let read-n : SFits w64 (at (w .3 .last .1 .1 .1 .1 .1 .1 .1 .1 .0) j) = record { sfits = w .18 .given } in
+    let read-s : SFits w64 (at (w .8 .last .1 .1 .1 .1 .1 .1 .1 .1 .0) j) = record { sfits = w .19 .given } in
+    let read-a : SFits w64 (at (w .13 .last .1 .1 .1 .1 .1 .1 .1 .1 .0) j) = record { sfits = w .20 .given } in
+    let heard = row-steady x (s .pre .inputs) i j _ _ _ (w .17 .taken) (w .3 .ensures .sums) (w .8 .ensures .sums) (w .13 .ensures .sums) (w .21 .result) (simp (toZ-ofZ, read-n, read-s, read-a) at (w .21 .ensures)) in
+    let hit = column-found (steadyAt x i) j (z .columns) (w .17 .taken) (heard ∙ ap (λ (v : Voice). isSteady (voiceOf v)) (w .23 .given .1)) in
+    let row = row-found (steadyAt x) (z .columns) i (z .rows) j (w .0 .taken) (sym (w .16 .inv) ∙ hit) in
     record {
       room-counts = ap length (w .24) ∙ w .3 .kept .1 .1 .1 .1 .1 .1 .1 .0 ∙ l .inv .1;
       room-totals = ap length (w .25) ∙ w .8 .kept .1 .1 .1 .1 .1 .1 .1 .0 ∙ l .inv .2;
@@ -276,7 +277,7 @@ left c =
       room-n = ap length (w .27) ∙ w .3 .kept .1 .1 .1 .1 .1 .1 .1 .1 .0 ∙ l .inv .4;
       room-s = ap length (w .28) ∙ w .8 .kept .1 .1 .1 .1 .1 .1 .1 .1 .0 ∙ l .inv .5;
       room-a = ap length (w .29) ∙ w .13 .kept .1 .1 .1 .1 .1 .1 .1 .1 .0 ∙ l .inv .6;
-      found = λ h. ap (λ (j : ℕ). some (cell i j)) (w .30) ∙ sym row ∙ l .inv .10;
+      found = λ h. ap (λ (j : ℕ). some (cell i j)) (w .30) ∙ sym row ∙ l .inv .0;
       nowhere = λ h. absurd (omega (arith, h, w .0 .taken));
     })
     (c .search-test .came)
