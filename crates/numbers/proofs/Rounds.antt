@@ -193,30 +193,6 @@ nearest-within x d q lo hi p h l u = (low-end, high-end)
         let g : pos 0 ≤ℤ (n *ℤ z) = leℤ (pos 0) (n *ℤ z) (omega (arith, ofEq e, ofEq (dbl q), sub-lawℤ (pos 2 *ℤ (n *ℤ hi)) (pos 2 *ℤ (n *ℤ q) -ℤ n), sub-lawℤ (pos 2 *ℤ (n *ℤ q)) n, sub-lawℤ (pos (2 * d) *ℤ q) (pos d), ofLe (h .below), ofLe u, mul-law (pos 2) x, mul-law (pos 2) (n *ℤ hi))) in
         leℤ q hi (omega (arith, ofLe (pos-cancel n z dpos g), add-law (pos 2 *ℤ (hi -ℤ q)) (pos 1), mul-law (pos 2) (hi -ℤ q), sub-lawℤ hi q))
 
--- the paper's words leave one number
-near-back : (x : ℤ) (d : ℕ) (q : ℤ) → 0 < d → Near x d q → IsNearest x d q
-near-back x d q p h =
-    let t = pos 2 *ℤ x in
-    let w = pos (2 * d) *ℤ q in
-    record {
-      below = leℤ (w -ℤ pos d) t (omega (arith, h .close, size (t -ℤ w), sub-lawℤ t w, sub-lawℤ w (pos d)));
-      above = ltℤ t (w +ℤ pos d) (cut (native.Mathlib.Decide.decLt (up t + dn w) (up w + dn t + d)) (omega (arith, h .close, size (t -ℤ w), sub-lawℤ t w)));
-    }
-  where
-    top-end : (y : ℤ) (d : ℕ) → up y ≡ dn y + d → natAbs y ≡ d
-    top-end (pos a) d e = omega arith
-    top-end (negsuc a) d e = absurd (omega arith)
-
-    cut : Dec (up (pos 2 *ℤ x) + dn (pos (2 * d) *ℤ q) < up (pos (2 * d) *ℤ q) + dn (pos 2 *ℤ x) + d) →
-        up (pos 2 *ℤ x) + dn (pos (2 * d) *ℤ q) ≤ up (pos (2 * d) *ℤ q) + dn (pos 2 *ℤ x) + d →
-        up (pos 2 *ℤ x) + dn (pos (2 * d) *ℤ q +ℤ pos d) < up (pos (2 * d) *ℤ q +ℤ pos d) + dn (pos 2 *ℤ x)
-    cut (yes l) k = omega (arith, add-law (pos (2 * d) *ℤ q) (pos d))
-    cut (no l) k =
-        let t = pos 2 *ℤ x in
-        let w = pos (2 * d) *ℤ q in
-        let y : natAbs (t -ℤ w) ≡ d = top-end (t -ℤ w) d (omega (arith, sub-lawℤ t w)) in
-        absurd (omega (arith, ofLe (h .larger y)))
-
 -- one whole root
 pub root-over-unique : (n d c c' : ℕ) → IsRootOver n d c → IsRootOver n d c' → c ≡ c'
 root-over-unique n d c c' h h' = go (native.Mathlib.Decide.decLt c c') (native.Mathlib.Decide.decLt c' c)
