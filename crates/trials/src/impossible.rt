@@ -49,6 +49,22 @@ fn squares(tally: Tally) -> Tally {
     refused(sums(2, 0, 0, 2, 2, -3), 9, t)
 }
 
+// The largest and the least numbers of 64 bits.
+fn extremes(tally: Tally) -> Tally {
+    let largest = 9223372036854775807i64;
+    let least = !9223372036854775807i64;
+    let mut t = tally;
+    t = refused(sums(least, 0, 0, 0, 0, 0), 9, t);
+    t = refused(sums(1, largest, 0, 0, 0, 0), 9, t);
+    t = refused(sums(1, least, 0, 0, 0, 0), 9, t);
+    t = refused(sums(1, 0, least, 0, 0, 0), 9, t);
+    t = refused(sums(1, 0, 0, largest, 0, 0), 9, t);
+    t = refused(sums(1, 0, 0, 0, least, 0), 9, t);
+    t = refused(sums(1, 0, 0, 0, 0, least), 9, t);
+    t = refused(sums(0, 0, 0, 0, 0, largest), 9, t);
+    refused(sums(least, least, least, least, least, least), 9, t)
+}
+
 // Possible sums at the limits.
 fn possible(tally: Tally) -> Tally {
     let mut t = tally;
@@ -63,7 +79,8 @@ fn possible(tally: Tally) -> Tally {
 }
 
 pub fn run() {
-    tally::print_numbered(b"calls refused by ", 9, squares(counts(tally::fresh())));
+    let t = extremes(squares(counts(tally::fresh())));
+    tally::print_numbered(b"calls refused by ", 9, t);
     tally::print(
         b"statistics of sums at their limits",
         possible(tally::fresh()),

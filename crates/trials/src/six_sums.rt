@@ -176,7 +176,51 @@ fn named(tally: Tally) -> Tally {
     of_sums(sums(0, 0, 0, 0, 0, 0), t)
 }
 
+// The coefficient where it is known.
+fn known(z: Sums, value: i64, t: Tally) -> Tally {
+    let answer = statistics::coefficient(z);
+    let seen = of_sums(z, t);
+    seen.with(answers::coefficient_given(answer), value)
+}
+
+// 65,024 cells, half of them 32,767 and half -32,767 in each picture: S and T are 0, so c is the largest with c·A ≤ 1,000·P, while
+// c²·Vf·Vg passes 128 bits.
+fn of_levels(p: i64, value: i64, t: Tally) -> Tally {
+    known(
+        sums(65024, 0, 0, 69814727015936, 69814727015936, p),
+        value,
+        t,
+    )
+}
+
+fn wide(tally: Tally) -> Tally {
+    let mut t = tally;
+    t = of_levels(69814727015936, 1000, t);
+    t = of_levels(-69814727015936, -1000, t);
+    t = of_levels(34907363507968, 500, t);
+    t = of_levels(34907363507967, 499, t);
+    t = of_levels(-52361045261952, -750, t);
+    t = of_levels(69744912288921, 999, t);
+    t = of_levels(69744912288920, 998, t);
+    t = of_levels(69814727016, 1, t);
+    t = of_levels(69814727015, 0, t);
+    t = of_levels(-1, 0, t);
+    known(
+        sums(
+            65024,
+            -32512,
+            -32512,
+            69816857689856,
+            69816857689856,
+            69816857689856,
+        ),
+        1000,
+        t,
+    )
+}
+
 pub fn run(f: &mut [i16], g: &mut [i16]) {
     tally::print(b"named sums", named(tally::fresh()));
+    tally::print(b"sums of the largest windows", wide(tally::fresh()));
     tally::print(b"sums of pictures", of_cases(360, f, g, tally::fresh()));
 }
