@@ -2,7 +2,7 @@
 --
 -- It is a claim about the code, because each contract gives the function's answer and areas by the very definition that stands here:
 --   rows::rows, rows::rows_at and rows::rows_plain    answer, position, work and output area of `rowCall`
---   picture::direct_sum                               the answer of `directCall`
+--   direct::direct_sum                                the answer of `directCall`
 --   table::build, table::read                         answer and area of `buildCall`; the answer of `readCall`
 --   statistics: mean, variance, deviation, voice      the answers of `meanCall`, `varianceCall`, `deviationCall`, `voiceCall`
 --   answer and coefficient                            and `coefficientCall`
