@@ -15,8 +15,8 @@ use lib.Signed.{leZ}
 use mir.Syntax.{w16}
 use mir.Val.{SFits}
 use Rattle.numbers.proofs.Widths.{level-size}
-use Rattle.panel_text.specs.Text.{space, lineFeed, minus, decimalIn, decimal, printed}
-use Rattle.panel_text.specs.Panel.{refusedLine}
+use Rattle.panel_language.specs.Text.{space, lineFeed, minus, decimalIn, decimal, printed}
+use Rattle.panel_language.specs.Panel.{refusedLine}
 use Rattle.panel_text.specs.Print.{Written}
 
 -- ---- decimal digits

@@ -11,7 +11,7 @@ use lib.Dec.{T, leb→le, leb}
 use lib.ListN.{length, getD, drop, drop-of-length-le}
 use lib.Seq.{drop-cons}
 use Rattle.numbers.proofs.Tests.{and-left, and-right}
-use Rattle.panel_text.specs.Text.{isDigit, allDigits, valueFrom}
+use Rattle.panel_language.specs.Text.{isDigit, allDigits, valueFrom}
 
 pub digit-low : (b : ℕ) → T (isDigit b) → 48 ≤ b
 unfolding isDigit

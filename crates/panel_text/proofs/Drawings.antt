@@ -33,7 +33,7 @@ use Rattle.panel_text.specs.declared.read.WindowRead.{WindowRead}
 use Rattle.panel_text.specs.declared.read.SizeRead.the-variants.{Refused as SizeRefused, Taken as SizeTaken}
 use Rattle.panel_text.specs.declared.read.WindowRead.the-variants.{Malformed as NoWindow, Taken as WindowTaken}
 use Rattle.panel_text.specs.Scan.{numbersFrom, told}
-use Rattle.panel_text.specs.Panel.{countOf, panelSize, isLevel, levelsOf, framed, filled, sized, parsed}
+use Rattle.panel_language.specs.Panel.{countOf, panelSize, isLevel, levelsOf, framed, filled, sized, parsed}
 use Rattle.panel_text.specs.Read.{sizeTold, SizeLegal, SizeIs, windowTold, WindowIs, levelsTold, Roomy}
 
 -- ---- no number stands next, or nothing does

@@ -16,7 +16,7 @@ use mir.Val.{SFits}
 use Rattle.numbers.proofs.Magnitudes.{size-sub, fits-at}
 use Rattle.panel_text.specs.declared.scan.Run.{Run}
 use Rattle.panel_text.specs.declared.scan.Run.the-variants.{Malformed as NoNumber, Number as ANumber}
-use Rattle.panel_text.specs.Text.{minus, allDigits, valueFrom, natural, mapOption, number}
+use Rattle.panel_language.specs.Text.{minus, allDigits, valueFrom, natural, mapOption, number}
 use Rattle.panel_text.specs.Scan.{RunStart, RunEnd, said, numbersFrom}
 use Rattle.panel_text.proofs.Runs.{no-runs}
 

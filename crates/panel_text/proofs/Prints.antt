@@ -10,8 +10,8 @@ use lib.Seq.{sets, length-sets}
 use lib.IntN.{ℤ}
 use Rattle.numbers.proofs.Lines.{line-end, line-next}
 use Rattle.numbers.proofs.Writes.{at, slice-at, slice-length}
-use Rattle.panel_text.specs.Text.{space, lineFeed, printed}
-use Rattle.panel_text.specs.Panel.{lineOf, linesOf}
+use Rattle.panel_language.specs.Text.{space, lineFeed, printed}
+use Rattle.panel_language.specs.Panel.{lineOf, linesOf}
 use Rattle.panel_text.specs.Print.{Written, Fitted, valueAt, LineRoom, LineWritten, LinesRoom}
 use Rattle.panel_text.proofs.Bytes.{sets-append}
 

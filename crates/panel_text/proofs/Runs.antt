@@ -8,7 +8,7 @@ use mathlib.Core.Bool.{Bool, true, false}
 use mathlib.Core.List.{List, [], _∷_, _++_}
 use lib.ListN.{length, getD, take, drop, length-take, length-drop, drop-of-length-le}
 use lib.Seq.{take-suc, drop-cons, getD-drop}
-use Rattle.panel_text.specs.Text.{divides, ended, runsFrom, runs}
+use Rattle.panel_language.specs.Text.{divides, ended, runsFrom, runs}
 use Rattle.panel_text.specs.Scan.{InRun, RunEnd}
 
 -- a byte that divides ends the run before it, and any other is the run's next

@@ -10,7 +10,7 @@ use lib.IntN.{ℤ, pos}
 use Rattle.picture.specs.declared.Size.{Size}
 use Rattle.picture.specs.declared.Window.{Window}
 use Rattle.picture.specs.Window.{windowLegal}
-use Rattle.panel_text.specs.Panel.{lineOf}
+use Rattle.panel_language.specs.Panel.{lineOf}
 use Rattle.panel_text.specs.Read.{Roomy}
 
 -- `new` is `old` with the bytes stored one after the other from `at` on; `end` is the place after them

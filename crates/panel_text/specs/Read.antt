@@ -18,7 +18,7 @@ use Rattle.panel_text.specs.declared.read.WindowRead.the-variants.{Malfo
 use Rattle.panel_text.specs.declared.read.Parsed.{Parsed}
 use Rattle.panel_text.specs.declared.read.Parsed.the-variants.{Refused, Taken}
 use Rattle.panel_text.specs.Scan.{numbersFrom}
-use Rattle.panel_text.specs.Panel.{Drawing, panelSize, levelsOf, framed, filled, sized}
+use Rattle.panel_language.specs.Panel.{Drawing, panelSize, levelsOf, framed, filled, sized}
 
 -- the outcome after the size was read
 abbrev pub sizeTold : List ℕ → SizeRead → Outcome Drawing

@@ -12,7 +12,7 @@ use Rattle.panel_text.specs.declared.scan.Run.{Run}
 use Rattle.panel_text.specs.declared.scan.Run.the-variants.{Malformed as NoNumber, Number as ANumber}
 use Rattle.panel_text.specs.declared.scan.Token.{Token}
 use Rattle.panel_text.specs.declared.scan.Token.the-variants.{End, Malformed, Number}
-use Rattle.panel_text.specs.Text.{divides, runs, allDigits, number}
+use Rattle.panel_language.specs.Text.{divides, runs, allDigits, number}
 
 -- a place in a run: its byte does not divide
 pub record InRun (text : List ℕ) (start : ℕ) : Type 0 where

@@ -3,8 +3,8 @@
 ghost use Prim.Native.Nat.{_+_, _≤_};
 ghost use mathlib.Core.List.{_∷_, [], _++_};
 ghost use lib.ListN.{length};
-ghost use Rattle.panel_text.specs.Text.{decimal, printed};
-ghost use Rattle.panel_text.specs.Panel.{linesOf, refusedLine};
+ghost use Rattle.panel_language.specs.Text.{decimal, printed};
+ghost use Rattle.panel_language.specs.Panel.{linesOf, refusedLine};
 ghost use Rattle.panel_text.specs.Print.{Written, Fitted, LineRoom, LineWritten, LinesRoom, valueAt};
 
 // The decimal digits of n.

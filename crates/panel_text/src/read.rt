@@ -3,7 +3,7 @@ ghost use mathlib.Core.Path.{_≡_};
 ghost use Prim.Native.Nat.{_≤_};
 ghost use lib.ListN.{length};
 ghost use Rattle.panel_text.specs.Scan.{numbersFrom};
-ghost use Rattle.panel_text.specs.Panel.{countOf, panelSize, levelsOf, filled, parsed};
+ghost use Rattle.panel_language.specs.Panel.{countOf, panelSize, levelsOf, filled, parsed};
 ghost use Rattle.panel_text.specs.Read.{SizeIs, WindowIs, levelsTold, Roomy, drawn};
 use super::scan::Token;
 use super::scan::next;

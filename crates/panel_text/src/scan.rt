@@ -3,7 +3,7 @@ ghost use mathlib.Core.Path.{_≡_};
 ghost use Prim.Native.Nat.{_-_, _≤_};
 ghost use lib.Dec.{T};
 ghost use lib.IntN.{pos};
-ghost use Rattle.panel_text.specs.Text.{divides, isDigit, allDigits, valueFrom, natural, mapOption, number};
+ghost use Rattle.panel_language.specs.Text.{divides, isDigit, allDigits, valueFrom, natural, mapOption, number};
 ghost use Rattle.panel_text.specs.Scan.{RunStart, InRun, RunEnd, Digits, said, numbersFrom, told};
 
 // What a run of bytes says: a number, or that it is malformed.

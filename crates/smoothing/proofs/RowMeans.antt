@@ -20,9 +20,9 @@ use Rattle.steps.specs.Asked.{Checked}
 use Rattle.statistics.specs.SixSums.{onPlane, sixSums}
 use Rattle.statistics.specs.Moments.{mean}
 use Rattle.statistics.proofs.Possible.{sums-fair, count-bound}
-use Rattle.smoothing.specs.Smoothing.{alone}
+use Rattle.smoothed.specs.Smoothing.{alone}
 use Rattle.smoothing.specs.Inner.{LevelMean, MeansAsked, meansOf}
-use Rattle.smoothing.proofs.Means.{counted, mean-level}
+use Rattle.smoothed.proofs.Means.{counted, mean-level}
 
 -- a row put in place behind the rows before it
 pub put-line : (f : ℕ → ℕ → ℤ) (c i lo : ℕ) (l part : List ℤ) → Lines f c l i → lo ≡ i * c → lo + c ≤ length l → length part ≡ c →

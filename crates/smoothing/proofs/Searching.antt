@@ -10,7 +10,7 @@ use Rattle.picture.specs.Size.{cell}
 use Rattle.picture.specs.Picture.{Inputs}
 use Rattle.statistics.specs.SixSums.{sixSums}
 use Rattle.statistics.specs.Voice.{voice}
-use Rattle.smoothing.specs.Steady.{isSteady, findColumn, orElse, findCell, firstSteady}
+use Rattle.smoothed.specs.Steady.{isSteady, findColumn, orElse, findCell, firstSteady}
 
 -- ---- along a row
 -- at the start

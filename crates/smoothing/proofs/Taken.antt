@@ -17,10 +17,10 @@ use Rattle.picture.specs.Window.{windowLegal}
 use Rattle.picture.specs.Picture.{Levels, inputs}
 use Rattle.picture.proofs.Refusals.{none-head, none-rest, number-0, number-refused, outcome-none, outcome-some}
 use Rattle.steps.specs.Asked.{Checked}
-use Rattle.smoothing.specs.Smoothing.{smoothed, smoothChecks, smoothCall}
-use Rattle.smoothing.specs.Steady.{firstSteady, steadyChecks, steadyCall}
+use Rattle.smoothed.specs.Smoothing.{smoothed, smoothChecks, smoothCall}
+use Rattle.smoothed.specs.Steady.{firstSteady, steadyChecks, steadyCall}
 use Rattle.smoothing.specs.Inner.{SmoothAsked}
-use Rattle.smoothing.proofs.Means.{smooth-writes, smooth-keeps}
+use Rattle.smoothed.proofs.Means.{smooth-writes, smooth-keeps}
 
 -- ---- smoothing
 module _ (z : Size) (f : List ℤ) (w : Window) (out : List ℤ) where

@@ -22,7 +22,7 @@ use Rattle.statistics.specs.Voice.{Voice, voice, voiceCall}
 use Rattle.statistics.specs.Answers.{voiceOf}
 use Rattle.statistics.proofs.Bounds.{possible-has, possible-of, answers}
 use Rattle.statistics.proofs.Possible.{sums-possible}
-use Rattle.smoothing.specs.Steady.{isSteady, findCell, firstSteady}
+use Rattle.smoothed.specs.Steady.{isSteady, findCell, firstSteady}
 use Rattle.smoothing.specs.Inner.{firstSums}
 
 -- ---- N, S and A alone

@@ -17,7 +17,7 @@ use Rattle.picture.specs.Direct.{directSum}
 use Rattle.session.specs.Rows.{workValue}
 use Rattle.steps.specs.Asked.{Checked}
 use Rattle.statistics.specs.declared.Sums.{Sums}
-use Rattle.smoothing.specs.Smoothing.{alone}
+use Rattle.smoothed.specs.Smoothing.{alone}
 
 -- ---- one row of a plane's sums
 -- the work area before row i: anything before row 0, and later what the row above left

@@ -3,7 +3,7 @@
 ghost use mathlib.Core.Path.{_≡_};
 ghost use lib.IntN.{natAbs};
 ghost use Rattle.numbers.specs.Round.{nearest};
-ghost use Rattle.smoothing.specs.Smoothing.{smoothed};
+ghost use Rattle.smoothed.specs.Smoothing.{smoothed};
 ghost use Rattle.smoothing.specs.Inner.{LevelMean, MeansAsked, meansOf, SmoothAsked, MeanRowsAsked};
 use super::sums::next;
 use picture::Shift;

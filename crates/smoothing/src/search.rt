@@ -8,7 +8,7 @@ ghost use Rattle.steps.specs.Asked.{Checked};
 ghost use Rattle.statistics.specs.SixSums.{impossible};
 ghost use Rattle.statistics.specs.Voice.{voice};
 ghost use Rattle.statistics.specs.Answers.{voiceOf};
-ghost use Rattle.smoothing.specs.Steady.{firstSteady};
+ghost use Rattle.smoothed.specs.Steady.{firstSteady};
 ghost use Rattle.smoothing.specs.Answers.{steadyOutcome};
 ghost use Rattle.smoothing.specs.Inner.{firstSums, SearchRowsAsked};
 use super::SteadyAnswer;

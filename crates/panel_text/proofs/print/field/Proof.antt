@@ -1,7 +1,7 @@
 -- `panel_text::print::field` meets its contract. Assumes nothing.
 use borrow.Author.Needs.{needs}
 use mir.Facts.{toZ-ofZ}
-use Rattle.panel_text.specs.Text.{printed}
+use Rattle.panel_language.specs.Text.{printed}
 use Rattle.panel_text.specs.Print.{Written}
 use native.Mathlib.Omega.{arith}
 use Rattle.panel_text.proofs.Bytes.{level-bytes, written-one, written-more}

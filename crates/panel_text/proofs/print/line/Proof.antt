@@ -7,7 +7,7 @@ use mir.Facts.{toZ-ofZ}
 use mir.Syntax.{w16}
 use mir.Val.{SFits}
 use Rattle.numbers.proofs.Writes.{at}
-use Rattle.panel_text.specs.Text.{space, lineFeed, printed}
+use Rattle.panel_language.specs.Text.{space, lineFeed, printed}
 use Rattle.panel_text.specs.Print.{Written}
 use Prim.Native.Nat.{_-_}
 use native.Mathlib.Omega.{arith}

@@ -7,7 +7,7 @@ use lib.ListN.{length, length-set}
 use lib.IntN.{natAbs}
 use mir.Facts.{toZ-ofZ}
 use Rattle.numbers.proofs.Widths.{fits-16-64}
-use Rattle.panel_text.specs.Text.{minus, decimal}
+use Rattle.panel_language.specs.Text.{minus, decimal}
 use Rattle.panel_text.proofs.Bytes.{printed-plain, printed-signed, level-digits, written-one, written-more, written-is}
 use Rattle.panel_text.proofs.print.number.Statement.{statement}
 use Rattle.panel_text.proofs.print.number.Tie as tie

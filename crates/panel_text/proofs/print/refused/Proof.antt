@@ -1,7 +1,7 @@
 -- `panel_text::print::refused` meets its contract. Assumes nothing.
 use borrow.Author.Needs.{needs}
 use mathlib.Core.Path.{_∙_}
-use Rattle.panel_text.specs.Text.{lineFeed}
+use Rattle.panel_language.specs.Text.{lineFeed}
 use Rattle.panel_text.proofs.Bytes.{few-digits, word-length, refused-written}
 use native.Mathlib.Omega.{arith}
 use lib.ListN.{length-set}

@@ -1,7 +1,7 @@
 -- `panel_text::read::parse` meets its contract. Assumes nothing.
 use borrow.Author.Needs.{needs}
 use mathlib.Core.Path.{_∙_}
-use Rattle.panel_text.proofs.Example.{longer}
+use Rattle.panel_language.proofs.Example.{longer}
 use Rattle.panel_text.proofs.Drawings.{no-size, size-read, size-fits}
 use Rattle.panel_text.proofs.read.parse.Statement.{statement}
 use Rattle.panel_text.proofs.read.parse.Tie as tie

@@ -8,8 +8,8 @@ use mir.Facts.{toZ-ofZ}
 use mir.Syntax.{w16, w32}
 use mir.Val.{SFits}
 use lib.Dec.{T}
-use Rattle.panel_text.specs.Panel.{isLevel}
-use Rattle.panel_text.proofs.Legal.{is-level}
+use Rattle.panel_language.specs.Panel.{isLevel}
+use Rattle.panel_language.proofs.Legal.{is-level}
 use Prim.Native.Nat.{_-_}
 use lib.ListN.{length}
 use Rattle.panel_text.proofs.Drawings.{LevelsUpto, levels-first, level-missing, level-beyond, levels-more, levels-extra, levels-all}

@@ -5,7 +5,7 @@ use mathlib.Core.Path.{_≡_, refl, sym, _∙_}
 use native.Mathlib.Omega.{arith}
 use borrow.Author.Tests.{not-true, not-false}
 use lib.ListN.{length, drop}
-use Rattle.panel_text.specs.Text.{allDigits}
+use Rattle.panel_language.specs.Text.{allDigits}
 use Rattle.panel_text.proofs.Digits.{digits-more, digits-not, digits-none}
 use Rattle.panel_text.proofs.scan.all_digits.Statement.{statement}
 use Rattle.panel_text.proofs.scan.all_digits.Tie as tie

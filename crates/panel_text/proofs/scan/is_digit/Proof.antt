@@ -1,6 +1,6 @@
 -- `panel_text::scan::is_digit` meets its contract. Assumes nothing.
 use borrow.Author.Tests.{lt-leb, le-leb}
-use Rattle.panel_text.specs.Text.{isDigit}
+use Rattle.panel_language.specs.Text.{isDigit}
 use Rattle.panel_text.proofs.scan.is_digit.Statement.{statement}
 use Rattle.panel_text.proofs.scan.is_digit.Tie as tie
 

@@ -1,6 +1,6 @@
 -- `panel_text::scan::is_divider` meets its contract. Assumes nothing.
 use borrow.Author.Tests.{eq-eqb, ne-eqb}
-use Rattle.panel_text.specs.Text.{divides}
+use Rattle.panel_language.specs.Text.{divides}
 use Rattle.panel_text.proofs.scan.is_divider.Statement.{statement}
 use Rattle.panel_text.proofs.scan.is_divider.Tie as tie
 

@@ -5,7 +5,7 @@ use mathlib.Core.Path.{_≡_, refl, sym, _∙_}
 use native.Mathlib.Omega.{arith}
 use borrow.Author.Tests.{not-true, not-false}
 use lib.ListN.{length, drop}
-use Rattle.panel_text.specs.Text.{runs}
+use Rattle.panel_language.specs.Text.{runs}
 use Rattle.panel_text.proofs.Runs.{runs-past}
 use Rattle.panel_text.proofs.scan.run_start.Statement.{statement}
 use Rattle.panel_text.proofs.scan.run_start.Tie as tie

@@ -12,7 +12,7 @@ use Rattle.picture.specs.Picture.{Inputs}
 use Rattle.picture.proofs.Refusals.{in-limits}
 use Rattle.statistics.specs.SixSums.{onPlane, sixSums}
 use Rattle.statistics.specs.Moments.{mean}
-use Rattle.smoothing.specs.Smoothing.{alone, smoothed}
+use Rattle.smoothed.specs.Smoothing.{alone, smoothed}
 use Rattle.smoothing.specs.Inner.{ready}
 use Rattle.smoothing.proofs.RowSums.{on-plane}
 use Rattle.smoothing.proofs.RowMeans.{put-line, row-asked, row-mean}

@@ -26,7 +26,7 @@ use Rattle.statistics.specs.declared.Voice.{Voice}
 use Rattle.statistics.specs.declared.Voice.the-variants.{Empty, Steady, Grainy}
 use Rattle.statistics.specs.SixSums.{onPlane}
 use Rattle.statistics.proofs.Voice.{the-type}
-use Rattle.smoothing.specs.Steady.{isSteady, findColumn, findCell, firstSteady}
+use Rattle.smoothed.specs.Steady.{isSteady, findColumn, findCell, firstSteady}
 use Rattle.smoothing.specs.Inner.{ready}
 use Rattle.smoothing.proofs.RowSums.{on-plane}
 use Rattle.smoothing.proofs.Voices.{row-possible, row-steady}

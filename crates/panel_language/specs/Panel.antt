@@ -12,8 +12,8 @@ use Rattle.picture.specs.declared.Window.{Window}
 use Rattle.picture.specs.Window.{window, windowLegal, between}
 use Rattle.picture.specs.declared.Size.{Size}
 use Rattle.picture.specs.Size.{size, sizeLegal, cells}
-use Rattle.smoothing.specs.Smoothing.{smoothed}
-use Rattle.panel_text.specs.Text.{space, lineFeed, runs, number, decimal, printed}
+use Rattle.smoothed.specs.Smoothing.{smoothed}
+use Rattle.panel_language.specs.Text.{space, lineFeed, runs, number, decimal, printed}
 
 -- what the text asks for
 pub record Drawing : Type 0 where

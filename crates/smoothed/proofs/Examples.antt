@@ -17,8 +17,8 @@ use Rattle.picture.specs.Picture.{shift, noShift, shiftLegal, counts, planeValu
 use Rattle.picture.specs.Direct.{windowSum, directSum}
 use Rattle.statistics.specs.Moments.{mean}
 use Rattle.statistics.specs.Voice.{voice}
-use Rattle.smoothing.specs.Smoothing.{smoothed, smoothCall}
-use Rattle.smoothing.specs.Steady.{findColumn, orElse, findCell, firstSteady, steadyCall}
+use Rattle.smoothed.specs.Smoothing.{smoothed, smoothCall}
+use Rattle.smoothed.specs.Steady.{findColumn, orElse, findCell, firstSteady, steadyCall}
 
 -- ---- smoothing
 -- 1 2 6 / -1 -2 -6 over one row and three columns; at the border two cells count: 3/2 is 2, and -3/2 is -1

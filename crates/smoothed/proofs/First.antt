@@ -18,7 +18,7 @@ use Rattle.statistics.specs.declared.Sums.{Sums}
 use Rattle.statistics.specs.SixSums.{sixSums, Vf, noCell, isZero}
 use Rattle.statistics.specs.Moments.{mean, deviation}
 use Rattle.statistics.specs.Voice.{empty, steady, grainy, over32768, voice}
-use Rattle.smoothing.specs.Steady.{isSteady, findColumn, orElse, findCell, firstSteady, steadyChecks}
+use Rattle.smoothed.specs.Steady.{isSteady, findColumn, orElse, findCell, firstSteady, steadyChecks}
 
 -- the first passing column of those from j on
 pub data FoundColumn (test : ℕ → Bool) (j n : ℕ) : Option ℕ → Type 0 where

@@ -17,9 +17,9 @@ use Rattle.picture.specs.Size.{sizeLegal, inRange}
 use Rattle.picture.specs.Picture.{counts, planeValue, planeAt}
 use Rattle.picture.specs.Direct.{windowSum, directSum}
 use Rattle.statistics.specs.Moments.{mean}
-use Rattle.smoothing.specs.Smoothing.{smoothed}
-use Rattle.panel_text.specs.Text.{runs, divides, isDigit, ended, runsFrom, allDigits, valueFrom, natural, mapOption, number, decimalIn, decimal, printed}
-use Rattle.panel_text.specs.Panel.{Drawing, countOf, panelSize, levelsOf, framed, filled, sized, parsed, lineOf, linesOf, shown, panel}
+use Rattle.smoothed.specs.Smoothing.{smoothed}
+use Rattle.panel_language.specs.Text.{runs, divides, isDigit, ended, runsFrom, allDigits, valueFrom, natural, mapOption, number, decimalIn, decimal, printed}
+use Rattle.panel_language.specs.Panel.{Drawing, countOf, panelSize, levelsOf, framed, filled, sized, parsed, lineOf, linesOf, shown, panel}
 
 -- 2 3 1 0 1 1 2 6 -1 -2 -6
 abbrev asked : List ℕ

@@ -29,7 +29,7 @@ use Rattle.picture.specs.Picture.{Levels, Inputs, counts, planeValue, planeAt, 
 use Rattle.picture.specs.Direct.{windowSum, directSum}
 use Rattle.statistics.specs.SixSums.{sixSums, onPlane, count}
 use Rattle.statistics.specs.Moments.{mean}
-use Rattle.smoothing.specs.Smoothing.{alone, smoothed, smoothChecks, smoothCall}
+use Rattle.smoothed.specs.Smoothing.{alone, smoothed, smoothChecks, smoothCall}
 
 module _ (z : Size) (f : List ℤ) (w : Window) where
   abbrev x : Inputs

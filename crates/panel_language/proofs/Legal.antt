@@ -17,8 +17,8 @@ use Rattle.picture.specs.declared.Window.{Window}
 use Rattle.picture.specs.Window.{window, windowLegal}
 use Rattle.picture.specs.Picture.{Levels}
 use Rattle.numbers.proofs.Tests.{and-left, and-right}
-use Rattle.panel_text.specs.Text.{runs, number}
-use Rattle.panel_text.specs.Panel.{Drawing, countOf, panelSize, isLevel, levelsOf, framed, filled, sized, parsed}
+use Rattle.panel_language.specs.Text.{runs, number}
+use Rattle.panel_language.specs.Panel.{Drawing, countOf, panelSize, isLevel, levelsOf, framed, filled, sized, parsed}
 
 pub record Legal (d : Drawing) : Type 0 where
   pub size : T (panelSize (d .size))
