@@ -236,11 +236,11 @@ pub fn rows(
         area_length(out.len(), request as u128 * size.columns as u128),
     ])?;
     for granted in 0..request {
-        for j in 0..size.columns {
-            work[j] = if *position == 0 {
+        for (j, number) in work.iter_mut().enumerate() {
+            *number = if *position == 0 {
                 first_work(pictures, window, plane, j as i64)
             } else {
-                work[j].wrapping_add(change(pictures, window, plane, *position as i64 - 1, j as i64))
+                number.wrapping_add(change(pictures, window, plane, *position as i64 - 1, j as i64))
             };
         }
         for j in 0..size.columns {
