@@ -1,2 +1,3 @@
 mod Numbers
 mod Replies
+pub mod Examples

@@ -16,26 +16,27 @@ use Rattle.statistics.specs.Coefficient as coefficients
 use Rattle.statistics.specs.Coefficient.{Coefficient}
 use Rattle.panel_text.specs.Rendered.{rendered}
 
--- a status other than 0, with no value; or status 0, and a value
+-- status 0 and a value, or another status and no value
 pub data Reply (A : Type 0) : Type 0 where
-  alone : ℤ → Reply A
-  given : A → Reply A
+  withValue : A → Reply A
+  withoutValue : (status : ℤ) → Reply A
 
 unfoldable pub status : {A : Type 0} → Reply A → ℤ
-status (alone s) = s
-status (given a) = pos 0
+status (withValue a) = pos 0
+status (withoutValue s) = s
 
 -- what stands behind the result pointers after the call: the value, or what stood there before
 unfoldable pub resultOr : {A : Type 0} → A → Reply A → A
-resultOr old (alone s) = old
-resultOr old (given a) = a
+resultOr old (withValue a) = a
+resultOr old (withoutValue s) = old
 
--- "Only the number comes back" of a call that is turned down: it is the status. An answer has a reply of its own
+-- "Only the number comes back" of a call that is turned down: it is the status. What a call answers has a reply of its own, `withValue` if
+-- it always has a value
 unfoldable pub reply : {A B : Type 0} → (A → Reply B) → Outcome A → Reply B
-reply of (refused n) = alone (pos n)
+reply of (refused n) = withoutValue (pos n)
 reply of (answered a) = of a
 
--- ---- answers that may have no value, and the status of each that has none
+-- ---- answers that may have no value, each with a status of its own
 abbrev pub emptyStatus : ℤ
 emptyStatus = negsuc 0
 
@@ -46,24 +47,24 @@ abbrev pub nowhereStatus : ℤ
 nowhereStatus = negsuc 2
 
 -- "six sums N, S, T, A, B, P"
-abbrev pub sixSums : (n s t a b p : ℤ) → Sums
-sixSums n s t a b p = record { n = n; s = s; t = t; a = a; b = b; p = p }
+abbrev pub sums : (n s t a b p : ℤ) → Sums
+sums n s t a b p = record { n = n; s = s; t = t; a = a; b = b; p = p }
 
 -- "Mean, variance and deviation answer Empty when N = 0": `none` is Empty
-abbrev pub whole : Option ℤ → Reply ℤ
-whole none = alone emptyStatus
-whole (some m) = given m
+abbrev pub ofWhole : Option ℤ → Reply ℤ
+ofWhole none = withoutValue emptyStatus
+ofWhole (some m) = withValue m
 
--- "Empty if N = 0; Flat if Vf or Vg is 0; otherwise" the coefficient
-abbrev pub correlation : Coefficient → Reply ℤ
-correlation coefficients.empty = alone emptyStatus
-correlation coefficients.flat = alone flatStatus
-correlation (coefficients.value c) = given c
+-- "Empty if N = 0; Flat if Vf or Vg is 0; otherwise" a number
+abbrev pub ofCoefficient : Coefficient → Reply ℤ
+ofCoefficient coefficients.empty = withoutValue emptyStatus
+ofCoefficient coefficients.flat = withoutValue flatStatus
+ofCoefficient (coefficients.value c) = withValue c
 
 -- "the first cell in row order whose voice answer is Steady, or None": `none` is Nowhere
-abbrev pub place : Option Cell → Reply Cell
-place none = alone nowhereStatus
-place (some c) = given c
+abbrev pub ofCell : Option Cell → Reply Cell
+ofCell none = withoutValue nowhereStatus
+ofCell (some c) = withValue c
 
 -- ---- voices
 abbrev pub steadyKind : ℕ
@@ -73,21 +74,22 @@ abbrev pub grainyKind : ℕ
 grainyKind = 2
 
 -- what stands behind the three result pointers of a voice
-pub record Sound : Type 0 where
+pub record VoiceResult : Type 0 where
   pub kind : ℕ
   pub level : Float
   pub spread : Float
 
-abbrev pub sound : ℕ → Float → Float → Sound
-sound k l s = record { kind = k; level = l; spread = s }
+abbrev pub voiceResult : ℕ → Float → Float → VoiceResult
+voiceResult k l s = record { kind = k; level = l; spread = s }
 
--- "Empty if N = 0; Steady with a level if Vf = 0; otherwise Grainy with a level and a spread". A steady voice has a spread of 0
-abbrev pub heard : Voice → Reply Sound
-heard empty = alone emptyStatus
-heard (steady l) = given (sound steadyKind l (fin false 0 (pos 0)))
-heard (grainy l s) = given (sound grainyKind l s)
+-- "Empty if N = 0; Steady with a level if Vf = 0; otherwise Grainy with a level and a spread". The spread of Steady is +0
+abbrev pub ofVoice : Voice → Reply VoiceResult
+ofVoice empty = withoutValue emptyStatus
+ofVoice (steady l) = withValue (voiceResult steadyKind l (fin false 0 (pos 0)))
+ofVoice (grainy l s) = withValue (voiceResult grainyKind l s)
 
 -- ---- panel
--- the count of the bytes that the program prints; 8, "output area of another length", where the area is too short for the longest print
-unfoldable pub printed : (text out : List ℕ) → Reply ℕ
-printed text out = elim (ltb (length out) 28672) [ true ↦ alone (pos 8) | false ↦ given (rendered text out .count) ]
+-- the count of the bytes that panel prints for a text, a refused text's line included; 8, "output area of another length", where the area has
+-- no room for the longest print
+unfoldable pub panelReply : (text out : List ℕ) → Reply ℕ
+panelReply text out = elim (ltb (length out) 28672) [ true ↦ withoutValue (pos 8) | false ↦ withValue (rendered text out .count) ]

@@ -4,9 +4,21 @@
 // null, not even that of an empty slice; each is aligned, and points to as much memory as its type and its length say; and what the call
 // may write overlaps nothing else that it is lent.
 //
-// The status is 0 where the call was answered; else the number of its refusal, 1 to 10, or the answer that has no value: -1 Empty, -2 Flat,
-// -3 Nowhere. At every status but 0 nothing is written: areas, results and position keep their bytes.
+// The status is 0 where the call was answered; else the number of its refusal, 1 to 10, or that of an answer with no value. At every
+// status but 0 nothing is written: areas, results and position keep their bytes.
 
 pub mod sums; // sums.rt: direct sum, cumulative table and row session
 pub mod moments; // moments.rt: the statistics of six sums
 pub mod pictures; // pictures.rt: smoothing, the steady search and panel
+
+// The statuses of answers with no value.
+const EMPTY: i32 = -1;
+
+const FLAT: i32 = -2;
+
+const NOWHERE: i32 = -3;
+
+// The kinds of a voice.
+const STEADY: u32 = 1;
+
+const GRAINY: u32 = 2;

@@ -3,27 +3,22 @@ ghost use mathlib.Core.Path.{_≡_};
 ghost use Rattle.statistics.specs.Moments.{meanCall, varianceCall, deviationCall};
 ghost use Rattle.statistics.specs.Voice.{voiceCall};
 ghost use Rattle.statistics.specs.Coefficient.{coefficientCall};
-ghost use Rattle.capi.specs.Reply.{status, resultOr, reply, sixSums, whole, correlation, sound, heard};
+ghost use Rattle.capi.specs.Reply.{status, resultOr, reply, sums, ofWhole, ofCoefficient, voiceResult, ofVoice};
+use super::EMPTY;
+use super::FLAT;
+use super::GRAINY;
+use super::STEADY;
 use statistics::CoefficientAnswer;
 use statistics::Sums;
 use statistics::Voice;
 use statistics::VoiceAnswer;
 use statistics::WholeAnswer;
 
-// The statuses of answers that have no value, and the kinds of a voice that has one.
-const EMPTY: i32 = -1;
-
-const FLAT: i32 = -2;
-
-const STEADY: u32 = 1;
-
-const GRAINY: u32 = 2;
-
 // `statistics::mean`: the mean of f.
 #[no_mangle]
 pub extern "C" fn ls_mean(n: i64, s: i64, t: i64, a: i64, b: i64, p: i64, mean: &mut i64) -> i32
-    ensures status { λ r. ⌜ r ≡ status (reply whole (meanCall (sixSums n s t a b p))) ⌝ }
-    ensures mean { λ _. ⌜ now (mean .exit) ≡ resultOr (now (mean .entry)) (reply whole (meanCall (sixSums n s t a b p))) ⌝ }
+    ensures status { λ r. ⌜ r ≡ status (reply ofWhole (meanCall (sums n s t a b p))) ⌝ }
+    ensures mean { λ _. ⌜ now (mean .exit) ≡ resultOr (now (mean .entry)) (reply ofWhole (meanCall (sums n s t a b p))) ⌝ }
 {
     let sums = Sums { n, s, t, a, b, p };
     match statistics::mean(sums) {
@@ -47,8 +42,8 @@ pub extern "C" fn ls_variance(
     p: i64,
     variance: &mut i64,
 ) -> i32
-    ensures status { λ r. ⌜ r ≡ status (reply whole (varianceCall (sixSums n s t a b p))) ⌝ }
-    ensures variance { λ _. ⌜ now (variance .exit) ≡ resultOr (now (variance .entry)) (reply whole (varianceCall (sixSums n s t a b p))) ⌝ }
+    ensures status { λ r. ⌜ r ≡ status (reply ofWhole (varianceCall (sums n s t a b p))) ⌝ }
+    ensures variance { λ _. ⌜ now (variance .exit) ≡ resultOr (now (variance .entry)) (reply ofWhole (varianceCall (sums n s t a b p))) ⌝ }
 {
     let sums = Sums { n, s, t, a, b, p };
     match statistics::variance(sums) {
@@ -72,8 +67,8 @@ pub extern "C" fn ls_deviation(
     p: i64,
     deviation: &mut i64,
 ) -> i32
-    ensures status { λ r. ⌜ r ≡ status (reply whole (deviationCall (sixSums n s t a b p))) ⌝ }
-    ensures deviation { λ _. ⌜ now (deviation .exit) ≡ resultOr (now (deviation .entry)) (reply whole (deviationCall (sixSums n s t a b p))) ⌝ }
+    ensures status { λ r. ⌜ r ≡ status (reply ofWhole (deviationCall (sums n s t a b p))) ⌝ }
+    ensures deviation { λ _. ⌜ now (deviation .exit) ≡ resultOr (now (deviation .entry)) (reply ofWhole (deviationCall (sums n s t a b p))) ⌝ }
 {
     let sums = Sums { n, s, t, a, b, p };
     match statistics::deviation(sums) {
@@ -97,8 +92,8 @@ pub extern "C" fn ls_coefficient(
     p: i64,
     coefficient: &mut i64,
 ) -> i32
-    ensures status { λ r. ⌜ r ≡ status (reply correlation (coefficientCall (sixSums n s t a b p))) ⌝ }
-    ensures coefficient { λ _. ⌜ now (coefficient .exit) ≡ resultOr (now (coefficient .entry)) (reply correlation (coefficientCall (sixSums n s t a b p))) ⌝ }
+    ensures status { λ r. ⌜ r ≡ status (reply ofCoefficient (coefficientCall (sums n s t a b p))) ⌝ }
+    ensures coefficient { λ _. ⌜ now (coefficient .exit) ≡ resultOr (now (coefficient .entry)) (reply ofCoefficient (coefficientCall (sums n s t a b p))) ⌝ }
 {
     let sums = Sums { n, s, t, a, b, p };
     match statistics::coefficient(sums) {
@@ -125,10 +120,10 @@ pub extern "C" fn ls_voice(
     level: &mut f32,
     spread: &mut f32,
 ) -> i32
-    ensures status { λ r. ⌜ r ≡ status (reply heard (voiceCall (sixSums n s t a b p))) ⌝ }
-    ensures kind { λ _. ⌜ now (kind .exit) ≡ resultOr (sound (now (kind .entry)) (now (level .entry)) (now (spread .entry))) (reply heard (voiceCall (sixSums n s t a b p))) .kind ⌝ }
-    ensures level { λ _. ⌜ now (level .exit) ≡ resultOr (sound (now (kind .entry)) (now (level .entry)) (now (spread .entry))) (reply heard (voiceCall (sixSums n s t a b p))) .level ⌝ }
-    ensures spread { λ _. ⌜ now (spread .exit) ≡ resultOr (sound (now (kind .entry)) (now (level .entry)) (now (spread .entry))) (reply heard (voiceCall (sixSums n s t a b p))) .spread ⌝ }
+    ensures status { λ r. ⌜ r ≡ status (reply ofVoice (voiceCall (sums n s t a b p))) ⌝ }
+    ensures kind { λ _. ⌜ now (kind .exit) ≡ resultOr (voiceResult (now (kind .entry)) (now (level .entry)) (now (spread .entry))) (reply ofVoice (voiceCall (sums n s t a b p))) .kind ⌝ }
+    ensures level { λ _. ⌜ now (level .exit) ≡ resultOr (voiceResult (now (kind .entry)) (now (level .entry)) (now (spread .entry))) (reply ofVoice (voiceCall (sums n s t a b p))) .level ⌝ }
+    ensures spread { λ _. ⌜ now (spread .exit) ≡ resultOr (voiceResult (now (kind .entry)) (now (level .entry)) (now (spread .entry))) (reply ofVoice (voiceCall (sums n s t a b p))) .spread ⌝ }
 {
     let sums = Sums { n, s, t, a, b, p };
     match statistics::voice_answer(sums) {

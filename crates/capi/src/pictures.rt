@@ -6,15 +6,13 @@ ghost use Rattle.picture.specs.Picture.{shift};
 ghost use Rattle.smoothed.specs.Smoothing.{smoothCall};
 ghost use Rattle.smoothed.specs.Steady.{steadyCall};
 ghost use Rattle.panel_text.specs.Rendered.{rendered};
-ghost use Rattle.capi.specs.Reply.{given, status, resultOr, reply, place, printed};
+ghost use Rattle.capi.specs.Reply.{withValue, status, resultOr, reply, ofCell, panelReply};
+use super::NOWHERE;
 use picture::FillAnswer;
 use picture::Shift;
 use picture::Size;
 use picture::Window;
 use smoothing::SteadyAnswer;
-
-// The status of a search that found no cell.
-const NOWHERE: i32 = -3;
 
 // `smoothing::smooth`: the mean over the window at every cell.
 #[no_mangle]
@@ -27,7 +25,7 @@ pub extern "C" fn ls_smooth(
     second: i32,
     out: &mut [i16],
 ) -> i32
-    ensures status { λ r. ⌜ r ≡ status (reply given (smoothCall (size rows columns) (now (f .entry)) (window shape first second) (now (out .entry)) .answer)) ⌝ }
+    ensures status { λ r. ⌜ r ≡ status (reply withValue (smoothCall (size rows columns) (now (f .entry)) (window shape first second) (now (out .entry)) .answer)) ⌝ }
     ensures area { λ _. ⌜ now (out .exit) ≡ smoothCall (size rows columns) (now (f .entry)) (window shape first second) (now (out .entry)) .area ⌝ }
 {
     let size = Size { rows, columns };
@@ -57,9 +55,9 @@ pub extern "C" fn ls_steady(
     row: &mut usize,
     column: &mut usize,
 ) -> i32
-    ensures status { λ r. ⌜ r ≡ status (reply place (steadyCall (size rows columns) (now (f .entry)) (now (g .entry)) (window shape first second) (shift down right))) ⌝ }
-    ensures row { λ _. ⌜ now (row .exit) ≡ resultOr (cell (now (row .entry)) (now (column .entry))) (reply place (steadyCall (size rows columns) (now (f .entry)) (now (g .entry)) (window shape first second) (shift down right))) .row ⌝ }
-    ensures column { λ _. ⌜ now (column .exit) ≡ resultOr (cell (now (row .entry)) (now (column .entry))) (reply place (steadyCall (size rows columns) (now (f .entry)) (now (g .entry)) (window shape first second) (shift down right))) .column ⌝ }
+    ensures status { λ r. ⌜ r ≡ status (reply ofCell (steadyCall (size rows columns) (now (f .entry)) (now (g .entry)) (window shape first second) (shift down right))) ⌝ }
+    ensures row { λ _. ⌜ now (row .exit) ≡ resultOr (cell (now (row .entry)) (now (column .entry))) (reply ofCell (steadyCall (size rows columns) (now (f .entry)) (now (g .entry)) (window shape first second) (shift down right))) .row ⌝ }
+    ensures column { λ _. ⌜ now (column .exit) ≡ resultOr (cell (now (row .entry)) (now (column .entry))) (reply ofCell (steadyCall (size rows columns) (now (f .entry)) (now (g .entry)) (window shape first second) (shift down right))) .column ⌝ }
 {
     let size = Size { rows, columns };
     let window = Window {
@@ -83,9 +81,9 @@ pub extern "C" fn ls_steady(
 // which hold the longest output, is refused by 8.
 #[no_mangle]
 pub extern "C" fn ls_panel(text: &[u8], out: &mut [u8], written: &mut usize) -> i32
-    ensures status { λ r. ⌜ r ≡ status (printed (now (text .entry)) (now (out .entry))) ⌝ }
+    ensures status { λ r. ⌜ r ≡ status (panelReply (now (text .entry)) (now (out .entry))) ⌝ }
     ensures area { λ _. ⌜ now (out .exit) ≡ rendered (now (text .entry)) (now (out .entry)) .area ⌝ }
-    ensures written { λ _. ⌜ now (written .exit) ≡ resultOr (now (written .entry)) (printed (now (text .entry)) (now (out .entry))) ⌝ }
+    ensures written { λ _. ⌜ now (written .exit) ≡ resultOr (now (written .entry)) (panelReply (now (text .entry)) (now (out .entry))) ⌝ }
 {
     if out.len() < 28672 {
         return 8;

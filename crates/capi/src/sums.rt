@@ -6,7 +6,7 @@ ghost use Rattle.picture.specs.Picture.{shift, source, inputs};
 ghost use Rattle.picture.specs.Direct.{directCall};
 ghost use Rattle.table.specs.Table.{buildCall, readCall};
 ghost use Rattle.session.specs.Rows.{rowCall};
-ghost use Rattle.capi.specs.Reply.{given, status, resultOr, reply};
+ghost use Rattle.capi.specs.Reply.{withValue, status, resultOr, reply};
 use picture::Cell;
 use picture::FillAnswer;
 use picture::Shift;
@@ -32,8 +32,8 @@ pub extern "C" fn ls_direct_sum(
     column: usize,
     sum: &mut i64,
 ) -> i32
-    ensures status { λ r. ⌜ r ≡ status (reply given (directCall (inputs (size rows columns) (now (f .entry)) (now (g .entry)) (window shape first second) (shift down right) plane) row column)) ⌝ }
-    ensures sum { λ _. ⌜ now (sum .exit) ≡ resultOr (now (sum .entry)) (reply given (directCall (inputs (size rows columns) (now (f .entry)) (now (g .entry)) (window shape first second) (shift down right) plane) row column)) ⌝ }
+    ensures status { λ r. ⌜ r ≡ status (reply withValue (directCall (inputs (size rows columns) (now (f .entry)) (now (g .entry)) (window shape first second) (shift down right) plane) row column)) ⌝ }
+    ensures sum { λ _. ⌜ now (sum .exit) ≡ resultOr (now (sum .entry)) (reply withValue (directCall (inputs (size rows columns) (now (f .entry)) (now (g .entry)) (window shape first second) (shift down right) plane) row column)) ⌝ }
 {
     let size = Size { rows, columns };
     let window = Window {
@@ -64,7 +64,7 @@ pub extern "C" fn ls_build(
     plane: u32,
     table: &mut [i64],
 ) -> i32
-    ensures status { λ r. ⌜ r ≡ status (reply given (buildCall (source (size rows columns) (now (f .entry)) (now (g .entry)) (shift down right) plane) (now (table .entry)) .answer)) ⌝ }
+    ensures status { λ r. ⌜ r ≡ status (reply withValue (buildCall (source (size rows columns) (now (f .entry)) (now (g .entry)) (shift down right) plane) (now (table .entry)) .answer)) ⌝ }
     ensures area { λ _. ⌜ now (table .exit) ≡ buildCall (source (size rows columns) (now (f .entry)) (now (g .entry)) (shift down right) plane) (now (table .entry)) .area ⌝ }
 {
     let size = Size { rows, columns };
@@ -88,8 +88,8 @@ pub extern "C" fn ls_read(
     column: usize,
     sum: &mut i64,
 ) -> i32
-    ensures status { λ r. ⌜ r ≡ status (reply given (readCall (size rows columns) (now (table .entry)) (window shape first second) row column)) ⌝ }
-    ensures sum { λ _. ⌜ now (sum .exit) ≡ resultOr (now (sum .entry)) (reply given (readCall (size rows columns) (now (table .entry)) (window shape first second) row column)) ⌝ }
+    ensures status { λ r. ⌜ r ≡ status (reply withValue (readCall (size rows columns) (now (table .entry)) (window shape first second) row column)) ⌝ }
+    ensures sum { λ _. ⌜ now (sum .exit) ≡ resultOr (now (sum .entry)) (reply withValue (readCall (size rows columns) (now (table .entry)) (window shape first second) row column)) ⌝ }
 {
     let size = Size { rows, columns };
     let window = Window {
@@ -126,11 +126,11 @@ pub extern "C" fn ls_rows(
     out: &mut [i64],
     granted: &mut usize,
 ) -> i32
-    ensures status { λ r. ⌜ r ≡ status (reply given (rowCall (inputs (size rows columns) (now (f .entry)) (now (g .entry)) (window shape first second) (shift down right) plane) (now (position .entry)) request (now (work .entry)) (now (out .entry)) .answer)) ⌝ }
+    ensures status { λ r. ⌜ r ≡ status (reply withValue (rowCall (inputs (size rows columns) (now (f .entry)) (now (g .entry)) (window shape first second) (shift down right) plane) (now (position .entry)) request (now (work .entry)) (now (out .entry)) .answer)) ⌝ }
     ensures position { λ _. ⌜ now (position .exit) ≡ rowCall (inputs (size rows columns) (now (f .entry)) (now (g .entry)) (window shape first second) (shift down right) plane) (now (position .entry)) request (now (work .entry)) (now (out .entry)) .position ⌝ }
     ensures work { λ _. ⌜ now (work .exit) ≡ rowCall (inputs (size rows columns) (now (f .entry)) (now (g .entry)) (window shape first second) (shift down right) plane) (now (position .entry)) request (now (work .entry)) (now (out .entry)) .work ⌝ }
     ensures output { λ _. ⌜ now (out .exit) ≡ rowCall (inputs (size rows columns) (now (f .entry)) (now (g .entry)) (window shape first second) (shift down right) plane) (now (position .entry)) request (now (work .entry)) (now (out .entry)) .output ⌝ }
-    ensures granted { λ _. ⌜ now (granted .exit) ≡ resultOr (now (granted .entry)) (reply given (rowCall (inputs (size rows columns) (now (f .entry)) (now (g .entry)) (window shape first second) (shift down right) plane) (now (position .entry)) request (now (work .entry)) (now (out .entry)) .answer)) ⌝ }
+    ensures granted { λ _. ⌜ now (granted .exit) ≡ resultOr (now (granted .entry)) (reply withValue (rowCall (inputs (size rows columns) (now (f .entry)) (now (g .entry)) (window shape first second) (shift down right) plane) (now (position .entry)) request (now (work .entry)) (now (out .entry)) .answer)) ⌝ }
 {
     let m = rows::rows_plain(
         *position,

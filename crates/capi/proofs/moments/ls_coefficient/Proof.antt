@@ -7,7 +7,7 @@ use mir.Val.{SFits}
 use Rattle.picture.specs.Refusal.{Outcome, refused}
 use Rattle.statistics.specs.Coefficient.{Coefficient, coefficientCall}
 use Rattle.statistics.specs.Answers.{coefficientOutcome}
-use Rattle.capi.specs.Reply.{sixSums, correlation}
+use Rattle.capi.specs.Reply.{sums, ofCoefficient}
 use Rattle.capi.proofs.Numbers.{coefficient-small, small-fits}
 use Rattle.capi.proofs.Replies.{refused-returns, none-returns, value-returns}
 use Rattle.capi.proofs.moments.ls_coefficient.Statement.{statement}
@@ -15,7 +15,7 @@ use Rattle.capi.proofs.moments.ls_coefficient.Tie as tie
 
 -- what was asked, and what it answered
 abbrev asked : tie.After-coefficient → Outcome Coefficient
-asked c = let s = c .before in coefficientCall (sixSums (s .args .n) (s .args .s) (s .args .t) (s .args .a) (s .args .b) (s .args .p))
+asked c = let s = c .before in coefficientCall (sums (s .args .n) (s .args .s) (s .args .t) (s .args .a) (s .args .b) (s .args .p))
 
 answer-is : (c : tie.After-coefficient) → asked c ≡ coefficientOutcome (c .coefficient .result)
 answer-is c = let f = c .before .fits in sym (simp (toZ-ofZ, f .n, f .s, f .t, f .a, f .b, f .p) at (c .coefficient .ensures))
@@ -45,16 +45,16 @@ enum-known-c : tie.Need-enum-known-c
 enum-known-c c = search needs
 
 returns : tie.Need-returns
-returns c = let e = refused-is c in refused-returns correlation _ _ _ (coefficient-small _ _ e) e
+returns c = let e = refused-is c in refused-returns ofCoefficient _ _ _ (coefficient-small _ _ e) e
 
 returns-2 : tie.Need-returns-2
-returns-2 c = none-returns correlation _ _ _ _ refl (answer-is (c .before .before) ∙ ap coefficientOutcome (c .enum-told .given .1))
+returns-2 c = none-returns ofCoefficient _ _ _ _ refl (answer-is (c .before .before) ∙ ap coefficientOutcome (c .enum-told .given .1))
 
 returns-3 : tie.Need-returns-3
-returns-3 c = none-returns correlation _ _ _ _ refl (answer-is (c .before .before) ∙ ap coefficientOutcome (c .enum-told2 .given .1))
+returns-3 c = none-returns ofCoefficient _ _ _ _ refl (answer-is (c .before .before) ∙ ap coefficientOutcome (c .enum-told2 .given .1))
 
 returns-4 : tie.Need-returns-4
-returns-4 c = simp (toZ-ofZ, value-fits c) (value-returns correlation _ _ _ _ refl (answer-is (c .before .before .before) ∙ ap coefficientOutcome (c .before .c .given .1)))
+returns-4 c = simp (toZ-ofZ, value-fits c) (value-returns ofCoefficient _ _ _ _ refl (answer-is (c .before .before .before) ∙ ap coefficientOutcome (c .before .c .given .1)))
 
 pub ls-coefficient-spec : {M : Type 1} → statement M
 ls-coefficient-spec =

@@ -9,7 +9,7 @@ use mir.Val.{SFits}
 use Rattle.picture.specs.Refusal.{Outcome, refused}
 use Rattle.statistics.specs.Moments.{meanCall}
 use Rattle.statistics.specs.Answers.{wholeOutcome}
-use Rattle.capi.specs.Reply.{sixSums, whole}
+use Rattle.capi.specs.Reply.{sums, ofWhole}
 use Rattle.capi.proofs.Numbers.{mean-small, small-fits}
 use Rattle.capi.proofs.Replies.{refused-returns, none-returns, value-returns}
 use Rattle.capi.proofs.moments.ls_mean.Statement.{statement}
@@ -17,7 +17,7 @@ use Rattle.capi.proofs.moments.ls_mean.Tie as tie
 
 -- what was asked, and what it answered
 abbrev asked : tie.After-mean → Outcome (Option ℤ)
-asked c = let s = c .before in meanCall (sixSums (s .args .n) (s .args .s) (s .args .t) (s .args .a) (s .args .b) (s .args .p))
+asked c = let s = c .before in meanCall (sums (s .args .n) (s .args .s) (s .args .t) (s .args .a) (s .args .b) (s .args .p))
 
 answer-is : (c : tie.After-mean) → asked c ≡ wholeOutcome (c .mean .result)
 answer-is c = let f = c .before .fits in sym (simp (toZ-ofZ, f .n, f .s, f .t, f .a, f .b, f .p) at (c .mean .ensures))
@@ -44,13 +44,13 @@ enum-known-m : tie.Need-enum-known-m
 enum-known-m c = search needs
 
 returns : tie.Need-returns
-returns c = let e = refused-is c in refused-returns whole _ _ _ (mean-small _ _ e) e
+returns c = let e = refused-is c in refused-returns ofWhole _ _ _ (mean-small _ _ e) e
 
 returns-2 : tie.Need-returns-2
-returns-2 c = none-returns whole _ _ _ _ refl (answer-is (c .before .before) ∙ ap wholeOutcome (c .enum-told .given .1))
+returns-2 c = none-returns ofWhole _ _ _ _ refl (answer-is (c .before .before) ∙ ap wholeOutcome (c .enum-told .given .1))
 
 returns-3 : tie.Need-returns-3
-returns-3 c = simp (toZ-ofZ, value-fits c) (value-returns whole _ _ _ _ refl (answer-is (c .before .before .before) ∙ ap wholeOutcome (c .before .m .given .1)))
+returns-3 c = simp (toZ-ofZ, value-fits c) (value-returns ofWhole _ _ _ _ refl (answer-is (c .before .before .before) ∙ ap wholeOutcome (c .before .m .given .1)))
 
 pub ls-mean-spec : {M : Type 1} → statement M
 ls-mean-spec =

@@ -9,7 +9,7 @@ use mir.Val.{SFits}
 use Rattle.picture.specs.Refusal.{Outcome, refused}
 use Rattle.statistics.specs.Moments.{varianceCall}
 use Rattle.statistics.specs.Answers.{wholeOutcome}
-use Rattle.capi.specs.Reply.{sixSums, whole}
+use Rattle.capi.specs.Reply.{sums, ofWhole}
 use Rattle.capi.proofs.Numbers.{variance-small, small-fits}
 use Rattle.capi.proofs.Replies.{refused-returns, none-returns, value-returns}
 use Rattle.capi.proofs.moments.ls_variance.Statement.{statement}
@@ -17,7 +17,7 @@ use Rattle.capi.proofs.moments.ls_variance.Tie as tie
 
 -- what was asked, and what it answered
 abbrev asked : tie.After-variance → Outcome (Option ℤ)
-asked c = let s = c .before in varianceCall (sixSums (s .args .n) (s .args .s) (s .args .t) (s .args .a) (s .args .b) (s .args .p))
+asked c = let s = c .before in varianceCall (sums (s .args .n) (s .args .s) (s .args .t) (s .args .a) (s .args .b) (s .args .p))
 
 answer-is : (c : tie.After-variance) → asked c ≡ wholeOutcome (c .variance .result)
 answer-is c = let f = c .before .fits in sym (simp (toZ-ofZ, f .n, f .s, f .t, f .a, f .b, f .p) at (c .variance .ensures))
@@ -44,13 +44,13 @@ enum-known-v : tie.Need-enum-known-v
 enum-known-v c = search needs
 
 returns : tie.Need-returns
-returns c = let e = refused-is c in refused-returns whole _ _ _ (variance-small _ _ e) e
+returns c = let e = refused-is c in refused-returns ofWhole _ _ _ (variance-small _ _ e) e
 
 returns-2 : tie.Need-returns-2
-returns-2 c = none-returns whole _ _ _ _ refl (answer-is (c .before .before) ∙ ap wholeOutcome (c .enum-told .given .1))
+returns-2 c = none-returns ofWhole _ _ _ _ refl (answer-is (c .before .before) ∙ ap wholeOutcome (c .enum-told .given .1))
 
 returns-3 : tie.Need-returns-3
-returns-3 c = simp (toZ-ofZ, value-fits c) (value-returns whole _ _ _ _ refl (answer-is (c .before .before .before) ∙ ap wholeOutcome (c .before .v .given .1)))
+returns-3 c = simp (toZ-ofZ, value-fits c) (value-returns ofWhole _ _ _ _ refl (answer-is (c .before .before .before) ∙ ap wholeOutcome (c .before .v .given .1)))
 
 pub ls-variance-spec : {M : Type 1} → statement M
 ls-variance-spec =

@@ -7,30 +7,30 @@ use borrow.Author.Tests.{lt-ltb, le-ltb}
 use lib.IntN.{pos}
 use lib.ListN.{length}
 use Rattle.panel_text.specs.Rendered.{rendered}
-use Rattle.capi.specs.Reply.{alone, given, printed}
-use Rattle.capi.proofs.Replies.{alone-returns, given-returns}
+use Rattle.capi.specs.Reply.{withoutValue, withValue, panelReply}
+use Rattle.capi.proofs.Replies.{without-value, with-value}
 use Rattle.capi.proofs.pictures.ls_panel.Statement.{statement}
 use Rattle.capi.proofs.pictures.ls_panel.Tie as tie
 
 module _ (text out : List ℕ) where
   -- an area that is too short
-  short-reply : length out < 28672 → printed text out ≡ alone (pos 8)
-  unfolding printed
-  short-reply h = rw (printed, lt-ltb (length out) 28672 h)
+  short-reply : length out < 28672 → panelReply text out ≡ withoutValue (pos 8)
+  unfolding panelReply
+  short-reply h = rw (panelReply, lt-ltb (length out) 28672 h)
 
   short-kept : length out < 28672 → out ≡ rendered text out .area
   unfolding rendered
   short-kept h = rw (rendered, lt-ltb (length out) 28672 h)
 
   -- one that has the room
-  room-reply : 28672 ≤ length out → printed text out ≡ given (rendered text out .count)
-  unfolding printed
-  room-reply h = rw (printed, le-ltb (length out) 28672 h)
+  room-reply : 28672 ≤ length out → panelReply text out ≡ withValue (rendered text out .count)
+  unfolding panelReply
+  room-reply h = rw (panelReply, le-ltb (length out) 28672 h)
 
 returns : tie.Need-returns
 returns c =
     let h = c .if1 .taken in
-    let r = alone-returns _ _ _ (short-reply _ _ h) in
+    let r = without-value _ _ _ (short-reply _ _ h) in
     (r .0, (short-kept _ _ h, r .1))
 
 render-requires : tie.Need-render-requires
@@ -42,7 +42,7 @@ same-length c = search needs
 returns-2 : tie.Need-returns-2
 returns-2 c =
     let e = c .before .before .render .ensures in
-    let r = given-returns _ _ _ (room-reply _ _ (c .before .before .before .before .if1 .left)) in
+    let r = with-value _ _ _ (room-reply _ _ (c .before .before .before .before .if1 .left)) in
     (r .0, (e .1, e .0 ∙ r .1))
 
 pub ls-panel-spec : {M : Type 1} → statement M

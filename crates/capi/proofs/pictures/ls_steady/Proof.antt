@@ -11,7 +11,7 @@ use Rattle.picture.specs.Window.{window}
 use Rattle.picture.specs.Picture.{shift}
 use Rattle.smoothed.specs.Steady.{steadyCall}
 use Rattle.smoothing.specs.Answers.{steadyOutcome}
-use Rattle.capi.specs.Reply.{Reply, status, resultOr, place}
+use Rattle.capi.specs.Reply.{Reply, status, resultOr, ofCell}
 use Rattle.capi.proofs.Numbers.{steady-small, small-fits}
 use Rattle.capi.proofs.Replies.{Returns, refused-returns, none-returns, value-returns}
 use Rattle.capi.proofs.pictures.ls_steady.Statement.{statement}
@@ -47,13 +47,13 @@ enum-known-cell : tie.Need-enum-known-cell
 enum-known-cell c = search needs
 
 returns : tie.Need-returns
-returns c = let e = refused-is c in parts _ _ _ _ (refused-returns place _ _ _ (steady-small _ _ _ _ _ _ e) e)
+returns c = let e = refused-is c in parts _ _ _ _ (refused-returns ofCell _ _ _ (steady-small _ _ _ _ _ _ e) e)
 
 returns-2 : tie.Need-returns-2
-returns-2 c = parts _ _ _ _ (none-returns place _ _ _ _ refl (answer-is (c .before .before) ∙ ap steadyOutcome (c .enum-told .given .1)))
+returns-2 c = parts _ _ _ _ (none-returns ofCell _ _ _ _ refl (answer-is (c .before .before) ∙ ap steadyOutcome (c .enum-told .given .1)))
 
 returns-3 : tie.Need-returns-3
-returns-3 c = parts _ _ _ _ (value-returns place _ _ _ _ refl (answer-is (c.before .before .before) ∙ ap steadyOutcome (c .before .cell .given .1)))
+returns-3 c = parts _ _ _ _ (value-returns ofCell _ _ _ _ refl (answer-is (c.before .before .before) ∙ ap steadyOutcome (c .before .cell .given .1)))
 
 pub ls-steady-spec : {M : Type 1} → statement M
 ls-steady-spec =

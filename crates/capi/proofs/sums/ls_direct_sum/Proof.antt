@@ -11,7 +11,7 @@ use Rattle.picture.specs.Window.{window}
 use Rattle.picture.specs.Picture.{shift, inputs}
 use Rattle.picture.specs.Direct.{directCall}
 use Rattle.picture.specs.Answers.{sumOutcome}
-use Rattle.capi.specs.Reply.{given}
+use Rattle.capi.specs.Reply.{withValue}
 use Rattle.capi.proofs.Numbers.{direct-small, small-fits}
 use Rattle.capi.proofs.Replies.{refused-returns, value-returns}
 use Rattle.capi.proofs.sums.ls_direct_sum.Statement.{statement}
@@ -43,10 +43,10 @@ enum-known-s : tie.Need-enum-known-s
 enum-known-s c = search needs
 
 returns : tie.Need-returns
-returns c = let e = refused-is c in refused-returns given _ _ _ (direct-small _ _ _ _ e) e
+returns c = let e = refused-is c in refused-returns withValue _ _ _ (direct-small _ _ _ _ e) e
 
 returns-2 : tie.Need-returns-2
-returns-2 c = simp (toZ-ofZ, value-fits c) (value-returns given _ _ _ _ refl (answer-is (c.before .before .before) ∙ ap sumOutcome (c .before .s .given .1)))
+returns-2 c = simp (toZ-ofZ, value-fits c) (value-returns withValue _ _ _ _ refl (answer-is (c.before .before .before) ∙ ap sumOutcome (c .before .s .given .1)))
 
 pub ls-direct-sum-spec : {M : Type 1} → statement M
 ls-direct-sum-spec =

@@ -8,7 +8,7 @@ use Rattle.picture.specs.Window.{window}
 use Rattle.picture.specs.Picture.{shift, inputs}
 use Rattle.session.specs.Rows.{RowOutcome, rowCall}
 use Rattle.rows.specs.Answers.{rowsOutcome}
-use Rattle.capi.specs.Reply.{given}
+use Rattle.capi.specs.Reply.{withValue}
 use Rattle.capi.proofs.Numbers.{row-small, small-fits}
 use Rattle.capi.proofs.Replies.{refused-returns, value-returns}
 use Rattle.capi.proofs.sums.ls_rows.Statement.{statement}
@@ -54,7 +54,7 @@ returns : tie.Need-returns
 returns c =
     let e = refused-is c in
     let l = left-is (c.before .before .before .before .before) in
-    let r = refused-returns given _ _ _ (row-small _ _ _ _ _ _ e) e in
+    let r = refused-returns withValue _ _ _ (row-small _ _ _ _ _ _ e) e in
     (r .0, (l .0, (l .1, (l .2, r .1))))
 
 same-length-3 : tie.Need-same-length-3
@@ -66,7 +66,7 @@ same-length-4 c = search needs
 returns-2 : tie.Need-returns-2
 returns-2 c =
     let l = left-is (c.before .before .before .before .before) in
-    let r = value-returns given _ _ _ _ refl (answer-is (c.before .before .before .before .before) ∙ ap rowsOutcome (c .before .answer2 .given .1)) in
+    let r = value-returns withValue _ _ _ _ refl (answer-is (c.before .before .before .before .before) ∙ ap rowsOutcome (c .before .answer2 .given .1)) in
     (r .0, (l .0, (l .1, (l .2, r .1))))
 
 pub ls-rows-spec : {M : Type 1} → statement M
