@@ -33,7 +33,7 @@ extern "C" {
     fn ls_panel(text: *const u8, text_length: usize, out: *mut u8, out_length: usize, written: *mut usize) -> i32;
 }
 
-/// The refusal of a status that is not `OK`.
+/// What a status says of a call that answers or refuses.
 pub fn answered(status: i32) -> Result<(), Refusal> {
     if status == OK {
         return Ok(());
@@ -197,4 +197,22 @@ pub fn steady(pictures: Pictures, window: Window, cell: &mut Cell) -> i32 {
 pub fn panel(text: &[u8], out: &mut [u8], written: &mut usize) -> i32 {
     // SAFETY: text is a slice with its own length, only read; out, with its own length, and written are each lent as `&mut`.
     unsafe { ls_panel(text.as_ptr(), text.len(), out.as_mut_ptr(), out.len(), written) }
+}
+
+#[cfg(test)]
+mod tests {
+    use super::{answered, OK};
+    use crate::Refusal;
+
+    #[test]
+    fn statuses_are_answers_or_refusals() {
+        assert_eq!(answered(OK), Ok(()));
+        assert_eq!(answered(8), Err(Refusal::Area));
+    }
+
+    #[test]
+    #[should_panic(expected = "another version")]
+    fn an_unknown_status_is_told() {
+        let _ = answered(-4);
+    }
 }

@@ -82,3 +82,16 @@ impl Display for Refusal {
 }
 
 impl Error for Refusal {}
+
+#[cfg(test)]
+mod tests {
+    use super::Refusal;
+
+    #[test]
+    fn numbers_1_to_9_are_refusals_and_no_others() {
+        for number in -4..=11 {
+            let found = Refusal::of_number(number).map(Refusal::number);
+            assert_eq!(found, (1..=9).contains(&number).then_some(number as u32));
+        }
+    }
+}

@@ -9,7 +9,7 @@ use local_statistics::{panel, smooth, steady, Refusal, PANEL_ROOM};
 fn smoothing() {
     let mut random = Random(9);
     let mut tally = Tally::default();
-    for _ in 0..4_000 {
+    for _ in 0..6_000 {
         let case = Case::any(&mut random, 14, 14);
         let length = case.area_length(&mut random);
         let mut expected = random.picture(length);
@@ -18,7 +18,7 @@ fn smoothing() {
         tally.compare(library, rival::smooth(case.size, &case.f, case.window, &mut expected), &case);
         out.expect(&expected, 77);
     }
-    tally.expect(2_000, &[1, 2, 3, 8]);
+    tally.expect(3_000, &[1, 2, 3, 8]);
 }
 
 #[test]
@@ -26,7 +26,7 @@ fn steady_cells() {
     let mut random = Random(10);
     let mut tally = Tally::default();
     let (mut first, mut later, mut nowhere) = (0, 0, 0);
-    for _ in 0..4_000 {
+    for _ in 0..6_000 {
         let case = Case::any(&mut random, 14, 14);
         let library = steady(case.pictures(), case.window);
         match library {
@@ -37,7 +37,7 @@ fn steady_cells() {
         }
         tally.compare(library, rival::steady(case.pictures(), case.window), &case);
     }
-    tally.expect(2_000, &[1, 2, 3, 4]);
+    tally.expect(3_000, &[1, 2, 3, 4]);
     assert!(first > 100 && later > 100 && nowhere > 100, "{first} at the first cell, {later} later, {nowhere} nowhere");
 }
 
@@ -90,7 +90,7 @@ fn panels() {
     let mut random = Random(11);
     let mut refused = [0; 11];
     let mut taken = 0;
-    for _ in 0..4_000 {
+    for _ in 0..6_000 {
         let text = text(&mut random);
         compare(&text, PANEL_ROOM + random.below(2));
         match rival::panel(&text).strip_prefix("refused ") {

@@ -171,7 +171,7 @@ pub fn read(size: Size, table: &[i64], window: Window, cell: Cell) -> Answer<i64
     let mut sum = 0i64;
     for p in -127..=127 {
         // the widest q of this row, where it has one
-        if let Some(q) = (0..=127).rev().find(|&q| holds(window, p, q)) {
+        if let Some(q) = (0..).take_while(|&q| holds(window, p, q)).last() {
             sum = sum.wrapping_add(rectangle_of(size, table, (i + p, i + p), (j - q, j + q)));
         }
     }
@@ -289,12 +289,19 @@ fn mean_of(moments: &Central) -> i64 {
     nearest(moments.s, moments.n)
 }
 
-fn deviation_of(moments: &Central) -> i64 {
-    let mut d = 0;
-    while (d + 1) * (d + 1) * moments.n * moments.n <= moments.vf {
-        d += 1;
+/// The largest whole number that a test passes which all below it pass, bit by bit.
+fn largest(test: impl Fn(i128) -> bool) -> i128 {
+    let mut number = 0;
+    for bit in (0..=20).rev() {
+        if test(number + (1 << bit)) {
+            number += 1 << bit;
+        }
     }
-    d as i64
+    number
+}
+
+fn deviation_of(moments: &Central) -> i64 {
+    largest(|d| d * d * moments.n * moments.n <= moments.vf) as i64
 }
 
 pub fn mean(sums: Sums) -> Answer<Option<i64>> {
@@ -346,10 +353,7 @@ pub fn coefficient(sums: Sums) -> Answer<Coefficient> {
     if vf == 0 || vg == 0 {
         return Ok(Coefficient::Flat);
     }
-    let mut size = 0;
-    while product(vf * vg, (size + 1) * (size + 1)) <= product(c * c, 1_000_000) {
-        size += 1;
-    }
+    let size = largest(|size| product(vf * vg, size * size) <= product(c * c, 1_000_000));
     Ok(Coefficient::Value((size * c.signum()) as i64))
 }
 

@@ -19,7 +19,7 @@ fn request(random: &mut Random, case: &Case, position: usize) -> usize {
 fn any_sessions() {
     let mut random = Random(5);
     let mut tally = Tally::default();
-    for _ in 0..6_000 {
+    for _ in 0..15_000 {
         let case = Case::any(&mut random, 12, 12);
         let start = if random.once_in(2) { 0 } else { random.below(case.size.rows.min(300) + 2) };
         let mut position = if random.once_in(40) { usize::MAX } else { start };
@@ -41,14 +41,14 @@ fn any_sessions() {
         }
         lent.expect(&work, 7);
     }
-    tally.expect(10_000, &[1, 2, 3, 4, 5, 7, 8]);
+    tally.expect(25_000, &[1, 2, 3, 4, 5, 7, 8]);
 }
 
 /// Demand 3 of document 01: whatever the list of calls, the rows that a fresh session writes are the direct sums, and what reading gives.
 #[test]
 fn fresh_sessions_give_the_direct_sums() {
     let mut random = Random(6);
-    for _ in 0..1_500 {
+    for _ in 0..5_000 {
         let case = Case::legal(&mut random, 10, 10);
         let columns = case.size.columns;
         let mut table = vec![0; case.f.len()];

@@ -94,7 +94,7 @@ fn statistics() {
     let mut random = Random(7);
     let mut tally = Tally::default();
     let (mut empty, mut flat, mut steady, mut grainy, mut values) = (0, 0, 0, 0, 0);
-    for _ in 0..40_000 {
+    for _ in 0..200_000 {
         let sums = any_sums(&mut random);
         tally.compare(sums.mean(), rival::mean(sums), &sums);
         tally.compare(sums.variance(), rival::variance(sums), &sums);
@@ -110,9 +110,9 @@ fn statistics() {
             values += usize::from(matches!(coefficient, Coefficient::Value(_)));
         }
     }
-    tally.expect(100_000, &[9]);
+    tally.expect(500_000, &[9]);
     for kind in [empty, flat, steady, grainy, values] {
-        assert!(kind > 1_000, "{empty} Empty, {flat} Flat, {steady} Steady, {grainy} Grainy, {values} coefficients");
+        assert!(kind > 5_000, "{empty} Empty, {flat} Flat, {steady} Steady, {grainy} Grainy, {values} coefficients");
     }
 }
 
@@ -120,7 +120,7 @@ fn statistics() {
 #[test]
 fn statistics_of_pictures() {
     let mut random = Random(8);
-    for _ in 0..2_000 {
+    for _ in 0..10_000 {
         let case = Case::legal(&mut random, 14, 14);
         let sums = six_sums(case.pictures(), case.window, case.cell).unwrap();
         let mut rival = sums;
