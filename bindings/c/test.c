@@ -299,6 +299,16 @@ static void check_sum(uint32_t shape, int32_t first, int32_t second, uint32_t pl
     CHECK(LS_OK, direct_sum(&x));
 }
 
+/* The whole of K, with itself moved by one row and one column. */
+static void check_shifted(uint32_t plane, int64_t sum)
+{
+    struct inputs x = legal;
+    x.down = x.right = 1;
+    x.plane = plane;
+    expected.number = sum;
+    CHECK(LS_OK, direct_sum(&x));
+}
+
 static void test_direct_sums(void)
 {
     check_sum(LS_RECTANGLE, 1, 1, LS_PLANE_ONE, 1, 1, 9);
@@ -316,6 +326,12 @@ static void test_direct_sums(void)
     check_sum(LS_HEXAGON, 1, 1, LS_PLANE_ONE, 1, 1, 9);
     check_sum(LS_HEXAGON, 1, 1, LS_PLANE_F, 1, 1, 45);
     check_sum(LS_HEXAGON, 2, 0, LS_PLANE_F, 0, 0, 6);
+    check_shifted(LS_PLANE_ONE, 4);
+    check_shifted(LS_PLANE_F, 12);
+    check_shifted(LS_PLANE_G, 28);
+    check_shifted(LS_PLANE_F_SQUARED, 46);
+    check_shifted(LS_PLANE_G_SQUARED, 206);
+    check_shifted(LS_PLANE_PRODUCT, 94);
 }
 
 static void test_tables(void)

@@ -1,4 +1,4 @@
-//! Links `liblocal_statistics.a` from the folder that `LOCAL_STATISTICS_DIR` names, or else from `dist/` of the repository.
+//! Links `liblocal_statistics.a` from the folder whose whole path `LOCAL_STATISTICS_DIR` has, or else from `dist/` of the repository.
 
 use std::env;
 use std::path::{Path, PathBuf};

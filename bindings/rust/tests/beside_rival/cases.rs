@@ -39,39 +39,43 @@ impl Case {
     pub fn any(random: &mut Random, rows: usize, columns: usize) -> Case {
         let mut case = Case::legal(random, rows, columns);
         if random.once_in(3) {
-            for fault in 1..=7 {
-                if random.once_in(5) {
-                    case.spoil(random, fault);
-                }
-            }
+            case.spoil(random);
         }
         case
     }
 
-    fn spoil(&mut self, random: &mut Random, fault: u32) {
-        let columns = self.size.columns;
-        match fault {
-            1 => self.size.rows = random.pick(&[0, 257, usize::MAX, self.size.rows + 1]),
-            2 => self.size.columns = random.pick(&[0, 1025, usize::MAX, columns + 1]),
-            3 => spoil_length(random, &mut self.f),
-            4 => spoil_length(random, &mut self.g),
-            5 => self.window = illegal_window(random),
-            6 => {
-                self.shift = match random.below(4) {
-                    0 => Shift { down: 256, ..self.shift },
-                    1 => Shift { down: -256, ..self.shift },
-                    2 => Shift { right: random.pick(&[1024, i32::MAX]), ..self.shift },
-                    _ => Shift { right: random.pick(&[-1024, i32::MIN]), ..self.shift },
-                }
-            }
-            _ => {
-                self.plane = if random.once_in(2) { Plane(random.pick(&[6, 7, u32::MAX])) } else { self.plane };
-                self.cell = match random.below(3) {
-                    0 => Cell { row: random.pick(&[self.size.rows, usize::MAX]), ..self.cell },
-                    1 => Cell { column: random.pick(&[self.size.columns, usize::MAX]), ..self.cell },
-                    _ => self.cell,
-                };
-            }
+    /// Each input gets a fault once in eight times.
+    fn spoil(&mut self, random: &mut Random) {
+        let Size { rows, columns } = self.size;
+        if random.once_in(8) {
+            self.size.rows = random.pick(&[0, 257, usize::MAX, rows + 1]);
+        }
+        if random.once_in(8) {
+            self.size.columns = random.pick(&[0, 1025, usize::MAX, columns + 1]);
+        }
+        if random.once_in(8) {
+            spoil_length(random, &mut self.f);
+        }
+        if random.once_in(8) {
+            spoil_length(random, &mut self.g);
+        }
+        if random.once_in(8) {
+            self.window = illegal_window(random);
+        }
+        if random.once_in(8) {
+            self.shift.down = random.pick(&[-256, 256, i32::MIN, i32::MAX]);
+        }
+        if random.once_in(8) {
+            self.shift.right = random.pick(&[-1024, 1024, i32::MIN, i32::MAX]);
+        }
+        if random.once_in(8) {
+            self.plane = Plane(random.pick(&[6, 7, u32::MAX]));
+        }
+        if random.once_in(8) {
+            self.cell.row = random.pick(&[rows, usize::MAX]);
+        }
+        if random.once_in(8) {
+            self.cell.column = random.pick(&[columns, usize::MAX]);
         }
     }
 

@@ -1,5 +1,5 @@
-//! The rival: document 01 in plain loops, written from its sentences and from nothing of the library. Each function answers what the call
-//! of that name answers, with the number of a refusal, and leaves in the areas what the call leaves.
+//! The rival: document 01 in plain loops, which shares nothing with the library but the types of the calls. Each function answers what the
+//! call of that name answers, with the number of a refusal, and leaves in the areas what the call leaves.
 
 use local_statistics::{Cell, Pictures, Plane, Size, Sums, Window};
 
@@ -9,12 +9,19 @@ pub type Answer<T> = Result<T, u32>;
 
 type Condition = (u32, bool);
 
-/// "Checks run in number order": the first condition that holds is the answer.
+/// "Checks run in number order": of the conditions that hold, the lowest number is the answer.
 fn refuse(conditions: &[Condition]) -> Answer<()> {
-    match conditions.iter().find(|(_, holds)| *holds) {
+    match conditions.iter().filter(|(_, holds)| *holds).min() {
         Some(&(number, _)) => Err(number),
         None => Ok(()),
     }
+}
+
+/// Those of two pictures under a shift, and more.
+fn refuse_pictures(pictures: Pictures, more: &[Condition]) -> Answer<()> {
+    let Pictures { size, f, g, .. } = pictures;
+    let own = [size_beyond(size), picture_length(size, f), picture_length(size, g), shift_beyond(pictures)];
+    refuse(&[&own, more].concat())
 }
 
 fn cells(size: Size) -> u128 {
@@ -110,16 +117,7 @@ fn window_sum(pictures: Pictures, window: Window, plane: Plane, cell: Cell) -> i
 }
 
 pub fn direct_sum(pictures: Pictures, window: Window, plane: Plane, cell: Cell) -> Answer<i64> {
-    let size = pictures.size;
-    refuse(&[
-        size_beyond(size),
-        picture_length(size, pictures.f),
-        picture_length(size, pictures.g),
-        window_illegal(window),
-        shift_beyond(pictures),
-        plane_above(plane),
-        cell_outside(size, cell),
-    ])?;
+    refuse_pictures(pictures, &[window_illegal(window), plane_above(plane), cell_outside(pictures.size, cell)])?;
     Ok(window_sum(pictures, window, plane, cell))
 }
 
@@ -127,14 +125,7 @@ pub fn direct_sum(pictures: Pictures, window: Window, plane: Plane, cell: Cell) 
 
 pub fn build(pictures: Pictures, plane: Plane, table: &mut [i64]) -> Answer<()> {
     let size = pictures.size;
-    refuse(&[
-        size_beyond(size),
-        picture_length(size, pictures.f),
-        picture_length(size, pictures.g),
-        shift_beyond(pictures),
-        plane_above(plane),
-        area_length(table.len(), cells(size)),
-    ])?;
+    refuse_pictures(pictures, &[plane_above(plane), area_length(table.len(), cells(size))])?;
     for i in 0..size.rows {
         let mut row = 0;
         for j in 0..size.columns {
@@ -224,17 +215,14 @@ pub fn rows(
     out: &mut [i64],
 ) -> Answer<usize> {
     let size = pictures.size;
-    refuse(&[
-        size_beyond(size),
-        picture_length(size, pictures.f),
-        picture_length(size, pictures.g),
+    let conditions = [
         window_illegal(window),
-        shift_beyond(pictures),
         plane_above(plane),
         request_above(size, *position, request),
         area_length(work.len(), size.columns as u128),
         area_length(out.len(), request as u128 * size.columns as u128),
-    ])?;
+    ];
+    refuse_pictures(pictures, &conditions)?;
     for granted in 0..request {
         for (j, number) in work.iter_mut().enumerate() {
             *number = if *position == 0 {
@@ -382,13 +370,7 @@ pub fn smooth(size: Size, f: &[i16], window: Window, out: &mut [i16]) -> Answer<
 
 pub fn steady(pictures: Pictures, window: Window) -> Answer<Option<Cell>> {
     let size = pictures.size;
-    refuse(&[
-        size_beyond(size),
-        picture_length(size, pictures.f),
-        picture_length(size, pictures.g),
-        window_illegal(window),
-        shift_beyond(pictures),
-    ])?;
+    refuse_pictures(pictures, &[window_illegal(window)])?;
     for row in 0..size.rows {
         for column in 0..size.columns {
             let cell = Cell { row, column };
