@@ -4,8 +4,9 @@
 // null, not even that of an empty slice; each is aligned, and points to as much memory as its type and its length say; and what the call
 // may write overlaps nothing else that it is lent.
 //
-// The status is 0 where the call was answered; else the number of its refusal, 1 to 10, or that of an answer with no value. At every
-// status but 0 nothing is written: areas, results and position keep their bytes.
+// The status is 0 where the call was answered; else the number of its refusal, 1 to 9, or that of an answer with no value. At every status
+// but 0 nothing is written: areas, results and position keep their bytes. (A text that panel refuses is answered: the line that says so is
+// what panel prints.)
 
 pub mod sums; // sums.rt: direct sum, cumulative table and row session
 pub mod moments; // moments.rt: the statistics of six sums

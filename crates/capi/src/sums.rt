@@ -100,8 +100,8 @@ pub extern "C" fn ls_read(
     let cell = Cell { row, column };
     match table::read(size, table, window, cell) {
         SumAnswer::Refused(number) => number as i32,
-        SumAnswer::Sum(s) => {
-            *sum = s;
+        SumAnswer::Sum(reading) => {
+            *sum = reading;
             0
         }
     }
@@ -148,11 +148,11 @@ pub extern "C" fn ls_rows(
         work,
         out,
     );
-    *position = m.position;
     let answer = m.answer;
     match answer {
         RowsAnswer::Refused(number) => number as i32,
         RowsAnswer::Granted(n) => {
+            *position = m.position;
             *granted = n;
             0
         }

@@ -54,7 +54,9 @@ returns-3 : tie.Need-returns-3
 returns-3 c = none-returns ofCoefficient _ _ _ _ refl (answer-is (c .before .before) ∙ ap coefficientOutcome (c .enum-told2 .given .1))
 
 returns-4 : tie.Need-returns-4
-returns-4 c = simp (toZ-ofZ, value-fits c) (value-returns ofCoefficient _ _ _ _ refl (answer-is (c .before .before .before) ∙ ap coefficientOutcome (c .before .c .given .1)))
+returns-4 c =
+    let r = value-returns ofCoefficient _ _ _ _ refl (answer-is (c .before .before .before) ∙ ap coefficientOutcome (c .before .c .given .1)) in
+    (r .0, toZ-ofZ (value-fits c) ∙ r .1)
 
 pub ls-coefficient-spec : {M : Type 1} → statement M
 ls-coefficient-spec =

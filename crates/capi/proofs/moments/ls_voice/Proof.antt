@@ -21,12 +21,12 @@ asked c = let s = c .before in voiceCall (sums (s .args .n) (s .args .s) (s .arg
 answer-is : (c : tie.After-voice-answer) → asked c ≡ voiceOutcome (c .voice-answer .result)
 answer-is c = let f = c .before .fits in sym (simp (toZ-ofZ, f .n, f .s, f .t, f .a, f .b, f .p) at (c .voice-answer .ensures))
 
-refused-is : (c : tie.After-known-told) → asked (c.before .before .before) ≡ refused (c .before .number .given .0 .0)
-refused-is c = answer-is (c.before .before .before) ∙ ap voiceOutcome (c .before .number .given .1)
+refused-is : (c : tie.After-known-told) → asked (c .before .before .before) ≡ refused (c .before .number .given .0 .0)
+refused-is c = answer-is (c .before .before .before) ∙ ap voiceOutcome (c .before .number .given .1)
 
 -- the voice that was heard, when it is known which
-voice-is : (c : tie.After-known-told2) (v : declared.Voice) → c .before .voice .given .0 .0 ≡ v → asked (c.before .before .before) ≡ answered (voiceOf v)
-voice-is c v e = answer-is (c.before .before .before) ∙ ap voiceOutcome (c .before .voice .given .1) ∙ ap (λ (x : declared.Voice). answered (voiceOf x)) e
+voice-is : (c : tie.After-known-told2) (v : declared.Voice) → c .before .voice .given .0 .0 ≡ v → asked (c .before .before .before) ≡ answered (voiceOf v)
+voice-is c v e = answer-is (c .before .before .before) ∙ ap voiceOutcome (c .before .voice .given .1) ∙ ap (λ (x : declared.Voice). answered (voiceOf x)) e
 
 -- the three results
 parts : (s : ℤ) (new old : VoiceResult) (r : Reply VoiceResult) → Returns s new old r →

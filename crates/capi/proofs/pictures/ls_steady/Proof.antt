@@ -24,8 +24,8 @@ asked c = let s = c .before in steadyCall (size (s .args .rows) (s .args .column
 answer-is : (c : tie.After-steady) → asked c ≡ steadyOutcome (c .steady .result)
 answer-is c = let f = c .before .fits in sym (simp (toZ-ofZ, f .first, f .second, f .down, f .right) at (c .steady .ensures))
 
-refused-is : (c : tie.After-known-told) → asked (c.before .before .before) ≡ refused (c .before .number .given .0 .0)
-refused-is c = answer-is (c.before .before .before) ∙ ap steadyOutcome (c .before .number .given .1)
+refused-is : (c : tie.After-known-told) → asked (c .before .before .before) ≡ refused (c .before .number .given .0 .0)
+refused-is c = answer-is (c .before .before .before) ∙ ap steadyOutcome (c .before .number .given .1)
 
 -- the two results
 parts : (s : ℤ) (new old : Cell) (r : Reply Cell) → Returns s new old r → (s ≡ status r) × ((new .row ≡ resultOr old r .row) × (new .column ≡ resultOr old r .column))
@@ -53,7 +53,7 @@ returns-2 : tie.Need-returns-2
 returns-2 c = parts _ _ _ _ (none-returns ofCell _ _ _ _ refl (answer-is (c .before .before) ∙ ap steadyOutcome (c .enum-told .given .1)))
 
 returns-3 : tie.Need-returns-3
-returns-3 c = parts _ _ _ _ (value-returns ofCell _ _ _ _ refl (answer-is (c.before .before .before) ∙ ap steadyOutcome (c .before .cell .given .1)))
+returns-3 c = parts _ _ _ _ (value-returns ofCell _ _ _ _ refl (answer-is (c .before .before .before) ∙ ap steadyOutcome (c .before .cell .given .1)))
 
 pub ls-steady-spec : {M : Type 1} → statement M
 ls-steady-spec =

@@ -24,8 +24,8 @@ asked c = let s = c .before in directCall (inputs (size (s .args .rows) (s .args
 answer-is : (c : tie.After-direct-sum) → asked c ≡ sumOutcome (c .direct-sum .result)
 answer-is c = let f = c .before .fits in sym (simp (toZ-ofZ, f .first, f .second, f .down, f .right) at (c .direct-sum .ensures))
 
-refused-is : (c : tie.After-known-told) → asked (c.before .before .before) ≡ refused (c .before .number .given .0 .0)
-refused-is c = answer-is (c.before .before .before) ∙ ap sumOutcome (c .before .number .given .1)
+refused-is : (c : tie.After-known-told) → asked (c .before .before .before) ≡ refused (c .before .number .given .0 .0)
+refused-is c = answer-is (c .before .before .before) ∙ ap sumOutcome (c .before .number .given .1)
 
 value-fits : (c : tie.After-known-told2) → SFits w64 (c .before .s .given .0 .0)
 value-fits c = search needs
@@ -46,7 +46,9 @@ returns : tie.Need-returns
 returns c = let e = refused-is c in refused-returns withValue _ _ _ (direct-small _ _ _ _ e) e
 
 returns-2 : tie.Need-returns-2
-returns-2 c = simp (toZ-ofZ, value-fits c) (value-returns withValue _ _ _ _ refl (answer-is (c.before .before .before) ∙ ap sumOutcome (c .before .s .given .1)))
+returns-2 c =
+    let r = value-returns withValue _ _ _ _ refl (answer-is (c .before .before .before) ∙ ap sumOutcome (c .before .s .given .1)) in
+    (r .0, toZ-ofZ (value-fits c) ∙ r .1)
 
 pub ls-direct-sum-spec : {M : Type 1} → statement M
 ls-direct-sum-spec =

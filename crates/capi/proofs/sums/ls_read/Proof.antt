@@ -23,10 +23,10 @@ asked c = let s = c .before in readCall (size (s .args .rows) (s .args .columns)
 answer-is : (c : tie.After-read) → asked c ≡ sumOutcome (c .read .result)
 answer-is c = let f = c .before .fits in sym (simp (toZ-ofZ, f .first, f .second) at (c .read .ensures))
 
-refused-is : (c : tie.After-known-told) → asked (c.before .before .before) ≡ refused (c .before .number .given .0 .0)
-refused-is c = answer-is (c.before .before .before) ∙ ap sumOutcome (c .before .number .given .1)
+refused-is : (c : tie.After-known-told) → asked (c .before .before .before) ≡ refused (c .before .number .given .0 .0)
+refused-is c = answer-is (c .before .before .before) ∙ ap sumOutcome (c .before .number .given .1)
 
-value-fits : (c : tie.After-known-told2) → SFits w64 (c .before .s .given .0 .0)
+value-fits : (c : tie.After-known-told2) → SFits w64 (c .before .reading .given .0 .0)
 value-fits c = search needs
 
 read-requires : tie.Need-read-requires
@@ -38,14 +38,16 @@ enum-known-number c = search needs
 cast-result : tie.Need-cast-result
 cast-result c = small-fits (read-small _ _ _ _ _ _ (refused-is c))
 
-enum-known-s : tie.Need-enum-known-s
-enum-known-s c = search needs
+enum-known-reading : tie.Need-enum-known-reading
+enum-known-reading c = search needs
 
 returns : tie.Need-returns
 returns c = let e = refused-is c in refused-returns withValue _ _ _ (read-small _ _ _ _ _ _ e) e
 
 returns-2 : tie.Need-returns-2
-returns-2 c = simp (toZ-ofZ, value-fits c) (value-returns withValue _ _ _ _ refl (answer-is (c.before .before .before) ∙ ap sumOutcome (c .before .s .given .1)))
+returns-2 c =
+    let r = value-returns withValue _ _ _ _ refl (answer-is (c .before .before .before) ∙ ap sumOutcome (c .before .reading .given .1)) in
+    (r .0, toZ-ofZ (value-fits c) ∙ r .1)
 
 pub ls-read-spec : {M : Type 1} → statement M
 ls-read-spec =
@@ -54,6 +56,6 @@ ls-read-spec =
     read-requires
     enum-known-number
     cast-result
-    enum-known-s
+    enum-known-reading
     returns
     returns-2)
