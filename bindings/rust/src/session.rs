@@ -65,6 +65,18 @@ impl<'a> Session<'a> {
 
     /// The work area: after a granted row, for a rectangle the sums of the columns over the window's rows, for the others the window sums
     /// of that row.
+    ///
+    /// ```
+    /// use local_statistics::{Pictures, Plane, Session, Size, Window};
+    ///
+    /// let pictures = Pictures::one(Size { rows: 2, columns: 2 }, &[1, 2, 3, 4]);
+    /// let mut work = [0; 2];
+    /// let mut session = Session::new(pictures, Window::rectangle(1, 1), Plane::F, &mut work);
+    /// let mut row = [0; 2];
+    /// session.rows(1, &mut row)?;
+    /// assert_eq!((session.work(), row), (&[4, 6][..], [10, 10]));
+    /// # Ok::<(), local_statistics::Refusal>(())
+    /// ```
     pub fn work(&self) -> &[i64] {
         self.work
     }

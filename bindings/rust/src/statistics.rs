@@ -77,6 +77,13 @@ fn whole(status: i32, value: i64) -> Result<Option<i64>, Refusal> {
 
 impl Sums {
     /// The mean of f: the whole number nearest S/N, a half going up; None where N = 0.
+    ///
+    /// ```
+    /// use local_statistics::Sums;
+    ///
+    /// let sums = Sums { n: 2, s: -3, t: 0, a: 5, b: 0, p: 0 }; // f -1 -2
+    /// assert_eq!(sums.mean(), Ok(Some(-1)));
+    /// ```
     pub fn mean(self) -> Result<Option<i64>, Refusal> {
         let mut mean = 0;
         let status = calls::mean(self, &mut mean);
@@ -84,13 +91,27 @@ impl Sums {
     }
 
     /// The variance of f: the whole number nearest Vf/N², a half going up; None where N = 0.
+    ///
+    /// ```
+    /// use local_statistics::Sums;
+    ///
+    /// let sums = Sums { n: 3, s: 1, t: 0, a: 11, b: 0, p: 0 }; // f 3 -1 -1: 32/9
+    /// assert_eq!(sums.variance(), Ok(Some(4)));
+    /// ```
     pub fn variance(self) -> Result<Option<i64>, Refusal> {
         let mut variance = 0;
         let status = calls::variance(self, &mut variance);
         whole(status, variance)
     }
 
-    /// The deviation of f: the largest whole d with d²·N² ≤ Vf; None where N = 0.
+    /// The deviation of f: the largest whole d with d²·N² ≤ Vf; None where N = 0. It is of the variance before rounding.
+    ///
+    /// ```
+    /// use local_statistics::Sums;
+    ///
+    /// let sums = Sums { n: 3, s: 1, t: 0, a: 11, b: 0, p: 0 }; // f 3 -1 -1: the root of 32/9
+    /// assert_eq!(sums.deviation(), Ok(Some(1)));
+    /// ```
     pub fn deviation(self) -> Result<Option<i64>, Refusal> {
         let mut deviation = 0;
         let status = calls::deviation(self, &mut deviation);
@@ -98,6 +119,15 @@ impl Sums {
     }
 
     /// The coefficient of f and g: the sign of C times the largest whole c with c²·Vf·Vg ≤ 1,000,000·C².
+    ///
+    /// ```
+    /// use local_statistics::{Coefficient, Sums};
+    ///
+    /// let against = Sums { n: 3, s: 6, t: 6, a: 14, b: 14, p: 10 }; // f 1 2 3, g 3 2 1
+    /// assert_eq!(against.coefficient(), Ok(Coefficient::Value(-1000)));
+    /// let level = Sums { n: 3, s: 6, t: 12, a: 14, b: 48, p: 24 }; // f 1 2 3, g 4 4 4
+    /// assert_eq!(level.coefficient(), Ok(Coefficient::Flat));
+    /// ```
     pub fn coefficient(self) -> Result<Coefficient, Refusal> {
         let mut coefficient = 0;
         let status = calls::coefficient(self, &mut coefficient);
@@ -108,6 +138,13 @@ impl Sums {
     }
 
     /// The voice of f.
+    ///
+    /// ```
+    /// use local_statistics::{Sums, Voice};
+    ///
+    /// let sums = Sums { n: 2, s: 32768, t: 0, a: 536870912, b: 0, p: 0 }; // f 16384 16384
+    /// assert_eq!(sums.voice(), Ok(Voice::Steady { level: 0.5 }));
+    /// ```
     pub fn voice(self) -> Result<Voice, Refusal> {
         let (mut kind, mut level, mut spread) = (0, 0.0, 0.0);
         let status = calls::voice(self, &mut kind, &mut level, &mut spread);
