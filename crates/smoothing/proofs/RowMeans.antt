@@ -42,11 +42,9 @@ module _ (z : Size) (f : List ℤ) (w : Window) (c : Checked (alone z f w)) (i :
   cell-mean : (j : ℕ) → j < z .columns → LevelMean (directSum (onPlane x 0) i j) (directSum (onPlane x 1) i j)
   unfolding mean
   cell-mean j h =
-      let few = count-bound x (c .levels-f) (c .levels-g) i j (c .window) in
       record {
-        some = counted z f w i j below h;
-        few = few;
-        small = omega (arith, few, sums-fair x (c .levels-f) (c .levels-g) i j .first);
+        count = record { some = counted z f w i j below h; few = count-bound x (c .levels-f) (c .levels-g) i j (c .window) };
+        small = sums-fair x (c .levels-f) (c .levels-g) i j .first;
         level = mean-level z f w (c .levels-f) i j below h;
       }
 

@@ -39,11 +39,15 @@ pub record RowSums (x : Inputs) (i : ℕ) (work out : List ℤ) : Type 0 where
   pub left : ready x (suc i) work
 
 -- ---- means
--- N and S of a cell that has a count, with a level for its mean
-pub record LevelMean (n s : ℤ) : Type 0 where
+-- N of a cell that has a count
+pub record Counted (n : ℤ) : Type 0 where
   pub some : pos 1 ≤ℤ n
   pub few : natAbs n ≤ 65025
-  pub small : natAbs s ≤ 32768 * 65025
+
+-- N and S of such a cell, with a level for its mean
+pub record LevelMean (n s : ℤ) : Type 0 where
+  pub count : Counted n
+  pub small : natAbs s ≤ 32768 * natAbs n
   pub level : mag (nearest s (natAbs n)) < 2 ^ 15
 
 -- N and S of a row's cells, and room for their means
