@@ -4,14 +4,13 @@ use mathlib.Core.Path.{_≡_, _∙_, ap, ap₂}
 use Prim.Native.Nat.{ℕ, _+_, _-_, _*_, _≤_, _<_}
 use native.Mathlib.Omega.{arith}
 use mathlib.Core.List.{List}
-use lib.ListN.{length}
+use lib.ListN.{length, take, drop}
 use lib.IntN.{ℤ, pos, natAbs}
 use borrow.Rule.Slice.PartMut.{putMid}
-use Rattle.numbers.specs.Grid.{tabulate}
 use Rattle.numbers.specs.Round.{nearest}
 use Rattle.numbers.proofs.Grids.{getD-tabulate}
-use Rattle.numbers.proofs.Lines.{tabulated-length, Lines, lines-next}
-use Rattle.numbers.proofs.Writes.{at, part-before, part-within}
+use Rattle.numbers.proofs.Lines.{Lines, lines-next, line-end}
+use Rattle.numbers.proofs.Writes.{at, part-before, part-within, slice-length, slice-at}
 use Rattle.picture.specs.declared.Size.{Size}
 use Rattle.picture.specs.declared.Window.{Window}
 use Rattle.picture.specs.Picture.{Inputs}
@@ -23,6 +22,20 @@ use Rattle.statistics.proofs.Possible.{sums-fair, count-bound}
 use Rattle.smoothed.specs.Smoothing.{alone}
 use Rattle.smoothing.specs.Inner.{LevelMean, MeansAsked, meansOf}
 use Rattle.smoothed.proofs.Means.{counted, mean-level}
+
+-- row r of a block, as it is lent
+pub record RowOf (r columns : ℕ) (block : List ℤ) : Type 0 where
+  pub size : length (take (r * columns + columns - r * columns) (drop (r * columns) block)) ≡ columns
+  pub each : (j : ℕ) → j < columns → at (take (r * columns + columns - r * columns) (drop (r * columns) block)) j ≡ at block (r * columns + j)
+
+pub row-of : (r columns : ℕ) (block : List ℤ) → length block ≡ 16 * columns → r < 16 → RowOf r columns block
+row-of r columns block e h =
+    let room : r * columns + columns ≤ length block = omega (arith, line-end r 16 columns h) in
+    let span : r * columns + columns - r * columns ≡ columns = omega arith in
+    record {
+      size = slice-length (r * columns) (r * columns + columns) block (omega arith) room ∙ span;
+      each = λ j l. slice-at (r * columns) (r * columns + columns) block (omega arith) room j (omega arith);
+    }
 
 -- a row put in place behind the rows before it
 pub put-line : (f : ℕ → ℕ → ℤ) (c i lo : ℕ) (l part : List ℤ) → Lines f c l i → lo ≡ i * c → lo + c ≤ length l → length part ≡ c →
@@ -48,17 +61,12 @@ module _ (z : Size) (f : List ℤ) (w : Window) (c : Checked (alone z f w)) (i :
         level = mean-level z f w (c .levels-f) i j below h;
       }
 
-  module _ (n s out : List ℤ) (n-is : n ≡ tabulate (z .columns) (directSum (onPlane x 0) i)) (s-is : s ≡ tabulate (z .columns) (directSum (onPlane x 1) i)) (room : length out ≡ z .columns) where
-    at-n : (j : ℕ) → j < z .columns → at n j ≡ directSum (onPlane x 0) i j
-    at-n j h = ap (λ (l : List ℤ). at l j) n-is ∙ getD-tabulate (z .columns) j (directSum (onPlane x 0) i) (pos 0) h
-
-    at-s : (j : ℕ) → j < z .columns → at s j ≡ directSum (onPlane x 1) i j
-    at-s j h = ap (λ (l : List ℤ). at l j) s-is ∙ getD-tabulate (z .columns) j (directSum (onPlane x 1) i) (pos 0) h
-
+  module _ (n s out : List ℤ) (room-n : length n ≡ z .columns) (room-s : length s ≡ z .columns) (room : length out ≡ z .columns)
+      (at-n : (j : ℕ) → j < z .columns → at n j ≡ directSum (onPlane x 0) i j) (at-s : (j : ℕ) → j < z .columns → at s j ≡ directSum (onPlane x 1) i j) where
     pub row-asked : MeansAsked n s out
     row-asked = record {
-      length-n = tabulated-length n (z .columns) (directSum (onPlane x 0) i) n-is ∙ omega arith;
-      length-s = tabulated-length s (z .columns) (directSum (onPlane x 1) i) s-is ∙ omega arith;
+      length-n = omega arith;
+      length-s = omega arith;
       each = λ j h. let l : j < z .columns = omega arith in rw (at-n j l, at-s j l) (cell-mean j l);
     }
 

@@ -2,14 +2,10 @@
 -- Assumes nothing.
 use mathlib.Core.Path.{_≡_, refl, sym, _∙_, ap}
 use mathlib.Core.Bool.{Bool, false}
-use Prim.Native.Nat.{ℕ, _<_}
+use Prim.Native.Nat.{ℕ}
 use native.Mathlib.Omega.{arith}
-use mathlib.Core.List.{List}
 use lib.IntN.{ℤ, pos, *ℤ-zero}
 use lib.Signed.{≤ℤ-refl}
-use Rattle.numbers.specs.Grid.{tabulate}
-use Rattle.numbers.proofs.Grids.{getD-tabulate}
-use Rattle.numbers.proofs.Writes.{at}
 use Rattle.picture.specs.Refusal.{Outcome, refused, answered}
 use Rattle.picture.specs.Picture.{Inputs}
 use Rattle.picture.specs.Direct.{directSum}
@@ -70,20 +66,15 @@ pub first-by-answers : (x : Inputs) → Checked x → firstSteady x ≡ findCell
 unfolding firstSteady
 first-by-answers x c = simp (voice-answers x c)
 
--- ---- from rows of N, S and A
-module _ (x : Inputs) (c : Checked x) (i j : ℕ) (n s a : List ℤ) (inside : j < x .source .size .columns)
-    (n-is : n ≡ tabulate (x .source .size .columns) (directSum (onPlane x 0) i))
-    (s-is : s ≡ tabulate (x .source .size .columns) (directSum (onPlane x 1) i))
-    (a-is : a ≡ tabulate (x .source .size .columns) (directSum (onPlane x 3) i)) where
-  at-cell : (k : ℕ) (l : List ℤ) → l ≡ tabulate (x .source .size .columns) (directSum (onPlane x k) i) → at l j ≡ directSum (onPlane x k) i j
-  at-cell k l e = ap (λ (m : List ℤ). at m j) e ∙ getD-tabulate (x .source .size .columns) j (directSum (onPlane x k) i) (pos 0) inside
+-- ---- from N, S and A of a cell
+module _ (x : Inputs) (c : Checked x) (i j : ℕ) (n s a : ℤ)
+    (n-is : n ≡ directSum (onPlane x 0) i j) (s-is : s ≡ directSum (onPlane x 1) i j) (a-is : a ≡ directSum (onPlane x 3) i j) where
+  sums-are : firstSums n s a ≡ firstSums (sixSums x i j .n) (sixSums x i j .s) (sixSums x i j .a)
+  sums-are = rw (n-is, s-is, a-is)
 
-  sums-are : firstSums (at n j) (at s j) (at a j) ≡ firstSums (sixSums x i j .n) (sixSums x i j .s) (sixSums x i j .a)
-  sums-are = rw (at-cell 0 n n-is, at-cell 1 s s-is, at-cell 3 a a-is)
-
-  pub row-possible : impossible (firstSums (at n j) (at s j) (at a j)) ≡ false
+  pub row-possible : impossible (firstSums n s a) ≡ false
   row-possible = ap impossible sums-are ∙ possible-first (sixSums x i j) (cell-possible x c i j)
 
   -- what is heard of those numbers is the voice of the cell
-  pub row-steady : (v : declared.Voice) → voiceOf v ≡ voice (firstSums (at n j) (at s j) (at a j)) → isSteady (voice (sixSums x i j)) ≡ isSteady (voiceOf v)
+  pub row-steady : (v : declared.Voice) → voiceOf v ≡ voice (firstSums n s a) → isSteady (voice (sixSums x i j)) ≡ isSteady (voiceOf v)
   row-steady v e = ap isSteady (sym (e ∙ ap voice sums-are ∙ voice-first (sixSums x i j)))

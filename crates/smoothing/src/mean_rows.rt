@@ -48,7 +48,7 @@ fn row_means(n: &[i64], s: &[i64], out: &mut [i16])
     }
 }
 
-// The means of every row; counts, totals, n and s are room for a row each.
+// The means of every row; counts and totals are room for a row each, n and s for 16 rows.
 fn every_row(
     size: Size,
     f: &[i16],
@@ -71,7 +71,9 @@ fn every_row(
         let end = start + columns;
         next(i, size, f, f, window, still, 0, counts, n);
         next(i, size, f, f, window, still, 1, totals, s);
-        row_means(n, s, &mut out[start..end]);
+        let from = i % 16 * columns;
+        let upto = from + columns;
+        row_means(&n[from..upto], &s[from..upto], &mut out[start..end]);
         start = end;
         i += 1;
     }
@@ -85,16 +87,17 @@ pub fn whole(size: Size, f: &[i16], window: Window, out: &mut [i16])
     let columns = size.columns;
     let mut counts = [0i64; 1024];
     let mut totals = [0i64; 1024];
-    let mut n = [0i64; 1024];
-    let mut s = [0i64; 1024];
+    let room = 16 * columns;
+    let mut n = [0i64; 16384];
+    let mut s = [0i64; 16384];
     every_row(
         size,
         f,
         window,
         &mut counts[..columns],
         &mut totals[..columns],
-        &mut n[..columns],
-        &mut s[..columns],
+        &mut n[..room],
+        &mut s[..room],
         out,
     );
 }

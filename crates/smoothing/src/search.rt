@@ -40,7 +40,7 @@ fn heard(n: i64, s: i64, a: i64) -> Voice
     }
 }
 
-// "the first cell in row order whose voice answer is Steady"; the areas are room for a row each.
+// "the first cell in row order whose voice answer is Steady"; counts, totals and squares are room for a row each, n, s and a for 16 rows.
 fn first(
     size: Size,
     f: &[i16],
@@ -65,9 +65,10 @@ fn first(
         next(i, size, f, g, window, shift, 0, counts, n);
         next(i, size, f, g, window, shift, 1, totals, s);
         next(i, size, f, g, window, shift, 3, squares, a);
+        let from = i % 16 * columns;
         j = 0;
         while j < columns {
-            let Voice::Steady(_) = heard(n[j], s[j], a[j]) else {
+            let Voice::Steady(_) = heard(n[from + j], s[from + j], a[from + j]) else {
                 j += 1;
                 continue;
             };
@@ -90,9 +91,10 @@ pub fn whole(size: Size, f: &[i16], g: &[i16], window: Window, shift: Shift) -> 
     let mut counts = [0i64; 1024];
     let mut totals = [0i64; 1024];
     let mut squares = [0i64; 1024];
-    let mut n = [0i64; 1024];
-    let mut s = [0i64; 1024];
-    let mut a = [0i64; 1024];
+    let room = 16 * columns;
+    let mut n = [0i64; 16384];
+    let mut s = [0i64; 16384];
+    let mut a = [0i64; 16384];
     first(
         size,
         f,
@@ -102,8 +104,8 @@ pub fn whole(size: Size, f: &[i16], g: &[i16], window: Window, shift: Shift) -> 
         &mut counts[..columns],
         &mut totals[..columns],
         &mut squares[..columns],
-        &mut n[..columns],
-        &mut s[..columns],
-        &mut a[..columns],
+        &mut n[..room],
+        &mut s[..room],
+        &mut a[..room],
     )
 }

@@ -1,7 +1,8 @@
 -- `smoothing::mean_rows::whole` meets its contract. Assumes nothing.
 use borrow.Author.Needs.{needs}
 use mathlib.Core.Path.{sym}
-use Prim.Native.Nat.{_≤_}
+use Prim.Native.Nat.{_*_, _≤_}
+use native.Mathlib.Omega.{arith}
 use lib.Seq.{length-take-le}
 use Rattle.picture.proofs.Refusals.{in-limits}
 use Rattle.smoothing.proofs.mean_rows.whole.Statement.{statement}
@@ -10,6 +11,13 @@ use Rattle.smoothing.proofs.mean_rows.whole.Tie as tie
 -- a row fits the room on the stack
 narrow : (s : tie.Start) → s .args .size .columns ≤ 1024
 narrow s = in-limits (s .args .size) (s .pre .inputs .size) .few-columns
+
+-- and a block its own
+room : (s : tie.Start) → 16 * s .args .size .columns ≤ 16384
+room s = omega (arith, narrow s)
+
+mul-room : tie.Need-mul-room
+mul-room c = record { fits = omega (arith, narrow c) }
 
 array-borrow-prefix-counts : tie.Need-array-borrow-prefix-counts
 array-borrow-prefix-counts c = narrow c
@@ -24,16 +32,16 @@ slice-aggregate-every-row-2 : tie.Need-slice-aggregate-every-row-2
 slice-aggregate-every-row-2 c = sym (length-take-le _ _ (narrow (c .before .before)))
 
 array-borrow-prefix-n : tie.Need-array-borrow-prefix-n
-array-borrow-prefix-n c = narrow (c .before .before)
+array-borrow-prefix-n c = room (c .before .before)
 
 slice-aggregate-every-row-3 : tie.Need-slice-aggregate-every-row-3
-slice-aggregate-every-row-3 c = sym (length-take-le _ _ (narrow (c .before .before .before)))
+slice-aggregate-every-row-3 c = sym (length-take-le _ _ (room (c .before .before .before)))
 
 array-borrow-prefix-s : tie.Need-array-borrow-prefix-s
-array-borrow-prefix-s c = narrow (c .before .before .before)
+array-borrow-prefix-s c = room (c .before .before .before)
 
 slice-aggregate-every-row-4 : tie.Need-slice-aggregate-every-row-4
-slice-aggregate-every-row-4 c = sym (length-take-le _ _ (narrow (c .before .before .before .before)))
+slice-aggregate-every-row-4 c = sym (length-take-le _ _ (room (c .before .before .before .before)))
 
 every-row-requires : tie.Need-every-row-requires
 every-row-requires c κs =
@@ -42,8 +50,8 @@ every-row-requires c κs =
       picture = s .pre;
       room-counts = length-take-le _ _ (narrow s);
       room-totals = length-take-le _ _ (narrow s);
-      room-n = length-take-le _ _ (narrow s);
-      room-s = length-take-le _ _ (narrow s);
+      room-n = length-take-le _ _ (room s);
+      room-s = length-take-le _ _ (room s);
     }
 
 same-length : tie.Need-same-length
@@ -56,6 +64,7 @@ pub whole-spec : {M : Type 1} → statement M
 whole-spec =
     tie.close
     (tie.spec
+    mul-room
     array-borrow-prefix-counts
     slice-aggregate-every-row
     array-borrow-prefix-totals

@@ -6,7 +6,8 @@ use mathlib.Core.Bool.{false}
 use mathlib.Core.Option.{none, some}
 use mathlib.Core.List.{List, [], _∷_}
 use mathlib.Core.Logic.{⊎-elim}
-use Prim.Native.Nat.{ℕ, _-_, _≤_, _<_}
+use Prim.Native.Nat.{ℕ, _+_, _-_, _*_, _%_, _≤_, _<_}
+use native.Mathlib.Nat.{mod-lt}
 use native.Mathlib.Omega.{arith}
 use native.Mathlib.Numerals.{add-one}
 use lib.ListN.{length}
@@ -16,6 +17,7 @@ use mir.Syntax.{w64}
 use mir.Val.{SFits}
 use types.Run.{OneOf, miss}
 use denote.Enum.Declared.{tagOf}
+use Rattle.numbers.proofs.Lines.{line-end}
 use Rattle.numbers.proofs.Writes.{at}
 use Rattle.picture.specs.Refusal.{answered}
 use Rattle.picture.specs.Size.{cell}
@@ -27,26 +29,26 @@ use Rattle.statistics.specs.declared.Voice.the-variants.{Empty, Steady, Grainy}
 use Rattle.statistics.specs.SixSums.{onPlane}
 use Rattle.statistics.proofs.Voice.{the-type}
 use Rattle.smoothed.specs.Steady.{isSteady, findColumn, findCell, firstSteady}
-use Rattle.smoothing.specs.Inner.{ready}
-use Rattle.smoothing.proofs.RowSums.{on-plane}
+use Rattle.smoothing.specs.Inner.{Held}
+use Rattle.smoothing.proofs.RowSums.{on-plane, held-none}
 use Rattle.smoothing.proofs.Voices.{row-possible, row-steady}
 use Rattle.smoothing.proofs.Searching.{steadyAt, whole-row, whole-search, column-passed, column-found, no-column, row-passed, row-found, no-row}
 use Rattle.smoothing.proofs.search.first.Statement.{statement}
 use Rattle.smoothing.proofs.search.first.Tie as tie
 
 abbrev Inv-loop : tie.InvT-loop
-Inv-loop size f g window shift counts totals squares n s a rows columns i j₀ j =
+Inv-loop size f g window shift counts totals squares n s a rows columns i j₀ from j =
     let test = steadyAt (inputs size f g window shift 0) i in
     findColumn test j (columns - j) ≡ findColumn test 0 columns
 
 abbrev μ-loop : tie.MeasureT-loop
-μ-loop size f g window shift counts totals squares n s a rows columns i j₀ j = columns - j
+μ-loop size f g window shift counts totals squares n s a rows columns i j₀ from j = columns - j
 
 abbrev Inv-search : tie.InvT-search
 Inv-search size f g window shift counts₀ totals₀ squares₀ n₀ s₀ a₀ rows columns i₀ j₀ counts totals squares n s a i j =
     let x = inputs size f g window shift 0 in
-    (findCell (steadyAt x) columns i (rows - i) ≡ firstSteady x) × (length counts ≡ columns) × (length totals ≡ columns) × (length squares ≡ columns) × (length n ≡ columns) × (length s ≡ columns) × (length a ≡ columns)
-    × ready (onPlane x 0) i counts × ready (onPlane x 1) i totals × ready (onPlane x 3) i squares
+    (findCell (steadyAt x) columns i (rows - i) ≡ firstSteady x) × (length counts ≡ columns) × (length totals ≡ columns) × (length squares ≡ columns) × (length n ≡ 16 * columns) × (length s ≡ 16 * columns) × (length a ≡ 16 * columns)
+    × Held (onPlane x 0) i counts n × Held (onPlane x 1) i totals s × Held (onPlane x 3) i squares a
 
 abbrev μ-search : tie.MeasureT-search
 μ-search size f g window shift counts₀ totals₀ squares₀ n₀ s₀ a₀ rows columns i₀ j₀ counts totals squares n s a i j = rows - i
@@ -64,6 +66,17 @@ narrow c =
     let s = turn (c .before .before) .before .before in
     omega (arith, c .loop-test .taken, in-limits (s .args .size) (s .pre .inputs .size) .few-columns)
 
+-- its place in a block is one of 16 · 1,024
+place : (c : tie.In-loop Inv-loop μ-loop Inv-search μ-search) → turn (c .before .before) .before .search .i % 16 * turn (c .before .before) .before .before .args .size .columns + c .before .loop .j < 16 * turn (c .before .before) .before .before .args .size .columns
+place c =
+    let t = turn (c .before .before) in
+    omega (arith, c .loop-test .taken, line-end (t .before .search .i % 16) 16 (t .before .before .args .size .columns) (mod-lt (t .before .search .i) (omega arith)))
+
+room : (c : tie.In-loop Inv-loop μ-loop Inv-search μ-search) → 16 * turn (c .before .before) .before .before .args .size .columns ≤ 16384
+room c =
+    let s = turn (c .before .before) .before .before in
+    omega (arith, in-limits (s .args .size) (s .pre .inputs .size) .few-columns)
+
 search-holds : tie.Need-search-holds Inv-loop μ-loop Inv-search μ-search
 search-holds c = (
   whole-search (given c),
@@ -73,9 +86,9 @@ search-holds c = (
   c .pre .room-n,
   c .pre .room-s,
   c .pre .room-a,
-  tt,
-  tt,
-  tt,
+  held-none (onPlane (given c) 0) _ _,
+  held-none (onPlane (given c) 1) _ _,
+  held-none (onPlane (given c) 3) _ _,
 )
 
 next-requires : tie.Need-next-requires Inv-loop μ-loop Inv-search μ-search
@@ -85,7 +98,7 @@ next-requires c κs =
     record {
       inputs = on-plane (given s) 0 (s .pre .inputs);
       row = c .before .before .search-test .taken;
-      left = l .inv .7;
+      before = l .inv .7;
       room-work = l .inv .1;
       room = l .inv .4;
     }
@@ -97,7 +110,7 @@ next-requires-2 c κs =
     record {
       inputs = on-plane (given s) 1 (s .pre .inputs);
       row = c .before .before .before .before .before .before .before .search-test .taken;
-      left = l .inv .8;
+      before = l .inv .8;
       room-work = l .inv .2;
       room = l .inv .5;
     }
@@ -109,51 +122,70 @@ next-requires-3 c κs =
     record {
       inputs = on-plane (given s) 3 (s .pre .inputs);
       row = c .before .before .before .before .before .before .before .before .before .before .before .before .search-test .taken;
-      left = l .inv .9;
+      before = l .inv .9;
       room-work = l .inv .3;
       room = l .inv .6;
     }
+
+mul-from : tie.Need-mul-from Inv-loop μ-loop Inv-search μ-search
+mul-from c =
+    let t = turn c in
+    record { fits = omega (arith, line-end (t .before .search .i % 16) 16 (t .before .before .args .size .columns) (mod-lt (t .before .search .i) (omega arith)), in-limits (t .before .before .args .size) (t .before .before .pre .inputs .size) .few-columns) }
 
 loop-holds : tie.Need-loop-holds Inv-loop μ-loop Inv-search μ-search
 loop-holds c =
     let t = turn c in
     whole-row (steadyAt (given (t .before .before)) (t .before .search .i)) (t .before .before .args .size .columns)
 
+add-heard : tie.Need-add-heard Inv-loop μ-loop Inv-search μ-search
+add-heard c = record { fits = omega (arith, place (c), room (c)) }
+
 mul-heard : tie.Need-mul-heard Inv-loop μ-loop Inv-search μ-search
-mul-heard c = omega (arith, narrow (c))
+mul-heard c = record { fits = omega (arith, place (c), room (c)) }
 
 slice-copy-out-heard : tie.Need-slice-copy-out-heard Inv-loop μ-loop Inv-search μ-search
 slice-copy-out-heard c =
     let r = c .before .before in
-    omega (arith, r .before .before .before .before .before .before .before .before .before .before .before .before .next .kept .1 .1 .1 .1 .1 .1 .1 .1 .0, turn r .before .search .inv .4, c .loop-test .taken)
+    omega (arith, r .before .before .before .before .before .before .before .before .before .before .before .before .next .kept .1 .1 .1 .1 .1 .1 .1 .1 .0, turn r .before .search .inv .4, place c)
+
+add-heard-2 : tie.Need-add-heard-2 Inv-loop μ-loop Inv-search μ-search
+add-heard-2 c = record { fits = omega (arith, place (c .before), room (c .before)) }
 
 mul-heard-2 : tie.Need-mul-heard-2 Inv-loop μ-loop Inv-search μ-search
-mul-heard-2 c = omega (arith, narrow (c .before))
+mul-heard-2 c = record { fits = omega (arith, place (c .before), room (c .before)) }
 
 slice-copy-out-heard-2 : tie.Need-slice-copy-out-heard-2 Inv-loop μ-loop Inv-search μ-search
 slice-copy-out-heard-2 c =
     let r = c .before .before .before in
-    omega (arith, r .before .before .before .before .before .before .before .next2 .kept .1 .1 .1 .1 .1 .1 .1 .1 .0, turn r .before .search .inv .5, c .before .loop-test .taken)
+    omega (arith, r .before .before .before .before .before .before .before .next2 .kept .1 .1 .1 .1 .1 .1 .1 .1 .0, turn r .before .search .inv .5, place (c .before))
+
+add-heard-3 : tie.Need-add-heard-3 Inv-loop μ-loop Inv-search μ-search
+add-heard-3 c = record { fits = omega (arith, place (c .before .before), room (c .before .before)) }
 
 mul-heard-3 : tie.Need-mul-heard-3 Inv-loop μ-loop Inv-search μ-search
-mul-heard-3 c = omega (arith, narrow (c .before .before))
+mul-heard-3 c = record { fits = omega (arith, place (c .before .before), room (c .before .before)) }
 
 slice-copy-out-heard-3 : tie.Need-slice-copy-out-heard-3 Inv-loop μ-loop Inv-search μ-search
 slice-copy-out-heard-3 c =
     let r = c .before .before .before .before in
-    omega (arith, r .before .before .next3 .kept .1 .1 .1 .1 .1 .1 .1 .1 .0, turn r .before .search .inv .6, c .before .before .loop-test .taken)
+    omega (arith, r .before .before .next3 .kept .1 .1 .1 .1 .1 .1 .1 .1 .0, turn r .before .search .inv .6, place (c .before .before))
 
 -- the three numbers that are read
+abbrev spot : tie.After-heard-arg3 Inv-loop μ-loop Inv-search μ-search → ℕ
+spot c =
+    let t = turn (c .before .before .before .before .before) in
+    t .before .search .i % 16 * t .before .before .args .size .columns + c .before .before .before .before .loop .j
+
 abbrev column : tie.After-heard-arg3 Inv-loop μ-loop Inv-search μ-search → ℕ
 column c = c .before .before .before .before .loop .j
 
-fits-n : (c : tie.After-heard-arg3 Inv-loop μ-loop Inv-search μ-search) → SFits w64 (at (c .before .before .before .before .before .before .before .before .before .before .before .before .before .before .before .before .before .next .last .1 .1 .1 .1 .1 .1 .1 .1 .0) (column c))
+fits-n : (c : tie.After-heard-arg3 Inv-loop μ-loop Inv-search μ-search) → SFits w64 (at (c .before .before .before .before .before .before .before .before .before .before .before .before .before .before .before .before .before .next .last .1 .1 .1 .1 .1 .1 .1 .1 .0) (spot c))
 fits-n c = record { sfits = c .before .before .heard-arg .given }
 
-fits-s : (c : tie.After-heard-arg3 Inv-loop μ-loop Inv-search μ-search) → SFits w64 (at (c .before .before .before .before .before .before .before .before .before .before .before .before .next2 .last .1 .1 .1 .1 .1 .1 .1 .1 .0) (column c))
+fits-s : (c : tie.After-heard-arg3 Inv-loop μ-loop Inv-search μ-search) → SFits w64 (at (c .before .before .before .before .before .before .before .before .before .before .before .before .next2 .last .1 .1 .1 .1 .1 .1 .1 .1 .0) (spot c))
 fits-s c = record { sfits = c .before .heard-arg2 .given }
 
-fits-a : (c : tie.After-heard-arg3 Inv-loop μ-loop Inv-search μ-search) → SFits w64 (at (c .before .before .before .before .before .before .before .next3 .last .1 .1 .1 .1 .1 .1 .1 .1 .0) (column c))
+fits-a : (c : tie.After-heard-arg3 Inv-loop μ-loop Inv-search μ-search) → SFits w64 (at (c .before .before .before .before .before .before .before .next3 .last .1 .1 .1 .1 .1 .1 .1 .1 .0) (spot c))
 fits-a c = record { sfits = c .heard-arg3 .given }
 
 heard-requires : tie.Need-heard-requires Inv-loop μ-loop Inv-search μ-search
@@ -162,8 +194,9 @@ heard-requires c κs =
     let t = turn r in
     let s = t .before .before in
     let j = c .before .before .before .before .loop .j in
+    let below = c .before .before .before .loop-test .taken in
     simp (toZ-ofZ, fits-n c, fits-s c, fits-a c)
-    (row-possible (given s) (s .pre .inputs) (t .before .search .i) j _ _ _ (c .before .before .before .loop-test .taken) (r .before .before .before .before .before .before .before .before .before .before .before .before .next .ensures .sums) (r .before .before .before .before .before .before .before .next2 .ensures .sums) (r .before .before .next3 .ensures .sums))
+    (row-possible (given s) (s .pre .inputs) (t .before .search .i) j _ _ _ (r .before .before .before .before .before .before .before .before .before .before .before .before .next .ensures .sums j below) (r .before .before .before .before .before .before .before .next2 .ensures .sums j below) (r .before .before .next3 .ensures .sums j below))
 
 -- what was heard is the cell's voice
 cell-steady : (c : tie.After-heard Inv-loop μ-loop Inv-search μ-search) → steadyAt (given (turn (c .before .before .before .before .before .before) .before .before)) (turn (c .before .before .before .before .before .before) .before .search .i) (column (c .before)) ≡ isSteady (voiceOf (c .heard .result))
@@ -171,7 +204,9 @@ cell-steady c =
     let r = c .before .before .before .before .before .before in
     let t = turn r in
     let s = t .before .before in
-    row-steady (given s) (s .pre .inputs) (t .before .search .i) (column (c .before)) _ _ _ (c .before .before .before .before .loop-test .taken) (r .before .before .before .before .before .before .before .before .before .before .before .before .next .ensures .sums) (r .before .before .before .before .before .before .before .next2 .ensures .sums) (r .before .before .next3 .ensures .sums) (c .heard .result)
+    let j = column (c .before) in
+    let below = c .before .before .before .before .loop-test .taken in
+    row-steady (given s) (s .pre .inputs) (t .before .search .i) j _ _ _ (r .before .before .before .before .before .before .before .before .before .before .before .before .next .ensures .sums j below) (r .before .before .before .before .before .before .before .next2 .ensures .sums j below) (r .before .before .next3 .ensures .sums j below) (c .heard .result)
     (simp (toZ-ofZ, fits-n (c .before), fits-s (c .before), fits-a (c .before)) at (c .heard .ensures))
 
 -- a voice that is passed over
@@ -226,9 +261,9 @@ search-again c =
       counted .kept .1 .1 .1 .1 .1 .1 .1 .1 .0 ∙ l .inv .4,
       summed .kept .1 .1 .1 .1 .1 .1 .1 .1 .0 ∙ l .inv .5,
       squared .kept .1 .1 .1 .1 .1 .1 .1 .1 .0 ∙ l .inv .6,
-      subst (λ (k : ℕ). ready (onPlane (given s) 0) k (counted .last .1 .1 .1 .1 .1 .1 .1 .0)) (sym (add-one i)) (counted .ensures .left),
-      subst (λ (k : ℕ). ready (onPlane (given s) 1) k (summed .last .1 .1 .1 .1 .1 .1 .1 .0)) (sym (add-one i)) (summed .ensures .left),
-      subst (λ (k : ℕ). ready (onPlane (given s) 3) k (squared .last .1 .1 .1 .1 .1 .1 .1 .0)) (sym (add-one i)) (squared .ensures .left),
+      subst (λ (k : ℕ). Held (onPlane (given s) 0) k (counted .last .1 .1 .1 .1 .1 .1 .1 .0) (counted .last .1 .1 .1 .1 .1 .1 .1 .1 .0)) (sym (add-one i)) (counted .ensures .next),
+      subst (λ (k : ℕ). Held (onPlane (given s) 1) k (summed .last .1 .1 .1 .1 .1 .1 .1 .0) (summed .last .1 .1 .1 .1 .1 .1 .1 .1 .0)) (sym (add-one i)) (summed .ensures .next),
+      subst (λ (k : ℕ). Held (onPlane (given s) 3) k (squared .last .1 .1 .1 .1 .1 .1 .1 .0) (squared .last .1 .1 .1 .1 .1 .1 .1 .1 .0)) (sym (add-one i)) (squared .ensures .next),
     )
 
 -- where the search is left: the room is as long as it was, and row i and column j tell the answer
@@ -236,9 +271,9 @@ record Left (x : Inputs) (counts totals squares n s a : List ℤ) (i j : ℕ) : 
   room-counts : length counts ≡ x .source .size .columns
   room-totals : length totals ≡ x .source .size .columns
   room-squares : length squares ≡ x .source .size .columns
-  room-n : length n ≡ x .source .size .columns
-  room-s : length s ≡ x .source .size .columns
-  room-a : length a ≡ x .source .size .columns
+  room-n : length n ≡ 16 * x .source .size .columns
+  room-s : length s ≡ 16 * x .source .size .columns
+  room-a : length a ≡ 16 * x .source .size .columns
   found : i < x .source .size .rows → some (cell i j) ≡ firstSteady x
   nowhere : x .source .size .rows ≤ i → none ≡ firstSteady x
 
@@ -264,10 +299,12 @@ left c =
     })
     (λ w.
     let j = w .16 .j in
-    let read-n : SFits w64 (at (w .3 .last .1 .1 .1 .1 .1 .1 .1 .1 .0) j) = record { sfits = w .18 .given } in
-    let read-s : SFits w64 (at (w .8 .last .1 .1 .1 .1 .1 .1 .1 .1 .0) j) = record { sfits = w .19 .given } in
-    let read-a : SFits w64 (at (w .13 .last .1 .1 .1 .1 .1 .1 .1 .1 .0) j) = record { sfits = w .20 .given } in
-    let heard = row-steady x (s .pre .inputs) i j _ _ _ (w .17 .taken) (w .3 .ensures .sums) (w .8 .ensures .sums) (w .13 .ensures .sums) (w .21 .result) (simp (toZ-ofZ, read-n, read-s, read-a) at (w .21 .ensures)) in
+    let k = i % 16 * z .columns + j in
+    let below = w .17 .taken in
+    let read-n : SFits w64 (at (w .3 .last .1 .1 .1 .1 .1 .1 .1 .1 .0) k) = record { sfits = w .18 .given } in
+    let read-s : SFits w64 (at (w .8 .last .1 .1 .1 .1 .1 .1 .1 .1 .0) k) = record { sfits = w .19 .given } in
+    let read-a : SFits w64 (at (w .13 .last .1 .1 .1 .1 .1 .1 .1 .1 .0) k) = record { sfits = w .20 .given } in
+    let heard = row-steady x (s .pre .inputs) i j _ _ _ (w .3 .ensures .sums j below) (w .8 .ensures .sums j below) (w .13 .ensures .sums j below) (w .21 .result) (simp (toZ-ofZ, read-n, read-s, read-a) at (w .21 .ensures)) in
     let hit = column-found (steadyAt x i) j (z .columns) (w .17 .taken) (heard ∙ ap (λ (v : Voice). isSteady (voiceOf v)) (w .23 .given .1)) in
     let row = row-found (steadyAt x) (z .columns) i (z .rows) j (w .0 .taken) (sym (w .16 .inv) ∙ hit) in
     record {
@@ -336,11 +373,15 @@ first-spec =
     next-requires
     next-requires-2
     next-requires-3
+    mul-from
     loop-holds
+    add-heard
     mul-heard
     slice-copy-out-heard
+    add-heard-2
     mul-heard-2
     slice-copy-out-heard-2
+    add-heard-3
     mul-heard-3
     slice-copy-out-heard-3
     heard-requires

@@ -1,7 +1,8 @@
 -- `smoothing::search::whole` meets its contract. Assumes nothing.
 use borrow.Author.Needs.{needs}
 use mathlib.Core.Path.{sym}
-use Prim.Native.Nat.{_≤_}
+use Prim.Native.Nat.{_*_, _≤_}
+use native.Mathlib.Omega.{arith}
 use lib.Seq.{length-take-le}
 use Rattle.picture.proofs.Refusals.{in-limits}
 use Rattle.smoothing.proofs.search.whole.Statement.{statement}
@@ -10,6 +11,13 @@ use Rattle.smoothing.proofs.search.whole.Tie as tie
 -- a row fits the room on the stack
 narrow : (s : tie.Start) → s .args .size .columns ≤ 1024
 narrow s = in-limits (s .args .size) (s .pre .size) .few-columns
+
+-- and a block its own
+room : (s : tie.Start) → 16 * s .args .size .columns ≤ 16384
+room s = omega (arith, narrow s)
+
+mul-room : tie.Need-mul-room
+mul-room c = record { fits = omega (arith, narrow c) }
 
 array-borrow-prefix-counts : tie.Need-array-borrow-prefix-counts
 array-borrow-prefix-counts c = narrow c
@@ -30,22 +38,22 @@ slice-aggregate-first-3 : tie.Need-slice-aggregate-first-3
 slice-aggregate-first-3 c = sym (length-take-le _ _ (narrow (c .before .before .before)))
 
 array-borrow-prefix-n : tie.Need-array-borrow-prefix-n
-array-borrow-prefix-n c = narrow (c .before .before .before)
+array-borrow-prefix-n c = room (c .before .before .before)
 
 slice-aggregate-first-4 : tie.Need-slice-aggregate-first-4
-slice-aggregate-first-4 c = sym (length-take-le _ _ (narrow (c .before .before .before .before)))
+slice-aggregate-first-4 c = sym (length-take-le _ _ (room (c .before .before .before .before)))
 
 array-borrow-prefix-s : tie.Need-array-borrow-prefix-s
-array-borrow-prefix-s c = narrow (c .before .before .before .before)
+array-borrow-prefix-s c = room (c .before .before .before .before)
 
 slice-aggregate-first-5 : tie.Need-slice-aggregate-first-5
-slice-aggregate-first-5 c = sym (length-take-le _ _ (narrow (c .before .before .before .before .before)))
+slice-aggregate-first-5 c = sym (length-take-le _ _ (room (c .before .before .before .before .before)))
 
 array-borrow-prefix-a : tie.Need-array-borrow-prefix-a
-array-borrow-prefix-a c = narrow (c .before .before .before .before .before)
+array-borrow-prefix-a c = room (c .before .before .before .before .before)
 
 slice-aggregate-first-6 : tie.Need-slice-aggregate-first-6
-slice-aggregate-first-6 c = sym (length-take-le _ _ (narrow (c .before .before .before .before .before .before)))
+slice-aggregate-first-6 c = sym (length-take-le _ _ (room (c .before .before .before .before .before .before)))
 
 first-requires : tie.Need-first-requires
 first-requires c κs =
@@ -55,9 +63,9 @@ first-requires c κs =
       room-counts = length-take-le _ _ (narrow s);
       room-totals = length-take-le _ _ (narrow s);
       room-squares = length-take-le _ _ (narrow s);
-      room-n = length-take-le _ _ (narrow s);
-      room-s = length-take-le _ _ (narrow s);
-      room-a = length-take-le _ _ (narrow s);
+      room-n = length-take-le _ _ (room s);
+      room-s = length-take-le _ _ (room s);
+      room-a = length-take-le _ _ (room s);
     }
 
 returns : tie.Need-returns
@@ -67,6 +75,7 @@ pub whole-spec : {M : Type 1} → statement M
 whole-spec =
     tie.close
     (tie.spec
+    mul-room
     array-borrow-prefix-counts
     slice-aggregate-first
     array-borrow-prefix-totals
