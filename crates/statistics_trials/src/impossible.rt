@@ -10,12 +10,12 @@ fn sums(n: i64, s: i64, t: i64, a: i64, b: i64, p: i64) -> Sums {
 
 // The five statistics of six sums.
 fn refused(z: Sums, number: u64, t: Tally) -> Tally {
-    t.with_natural(answers::whole_refusal(statistics::mean(z)), number)
-        .with_natural(answers::whole_refusal(statistics::variance(z)), number)
-        .with_natural(answers::whole_refusal(statistics::deviation(z)), number)
-        .with_natural(answers::voice_refusal(statistics::voice_answer(z)), number)
+    t.with_natural(answers::whole_refusal(moments::mean(z)), number)
+        .with_natural(answers::whole_refusal(moments::variance(z)), number)
+        .with_natural(answers::whole_refusal(moments::deviation(z)), number)
+        .with_natural(answers::voice_refusal(moments::voice_answer(z)), number)
         .with_natural(
-            answers::coefficient_refusal(statistics::coefficient(z)),
+            answers::coefficient_refusal(correlation::coefficient(z)),
             number,
         )
 }

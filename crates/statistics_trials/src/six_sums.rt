@@ -1,6 +1,6 @@
 // Statistics of the six sums of generated pictures, and of the sums that document 01 names, beside the rival's.
 use crate::answers;
-use rival::moments;
+use rival::moments as rivals;
 use statistics::Sums;
 use trial_cases::cases;
 use trial_cases::cases::Case;
@@ -28,18 +28,18 @@ fn wanted_kind(z: Sums) -> u64 {
 
 // Vf as a natural number; that of six sums of pictures is not negative.
 fn vf(z: Sums) -> u64 {
-    machine::magnitude(moments::central(z.n, z.a, z.s, z.s))
+    machine::magnitude(rivals::central(z.n, z.a, z.s, z.s))
 }
 
 fn vg(z: Sums) -> u64 {
-    machine::magnitude(moments::central(z.n, z.b, z.t, z.t))
+    machine::magnitude(rivals::central(z.n, z.b, z.t, z.t))
 }
 
 // Mean, variance and deviation.
 fn whole_numbers(z: Sums, t: Tally) -> Tally {
-    let mean = statistics::mean(z);
-    let variance = statistics::variance(z);
-    let deviation = statistics::deviation(z);
+    let mean = moments::mean(z);
+    let variance = moments::variance(z);
+    let deviation = moments::deviation(z);
     let kind = wanted_kind(z);
     let kinds = t.with_natural(answers::whole_kind(mean), kind)
         .with_natural(answers::whole_kind(variance), kind)
@@ -47,13 +47,10 @@ fn whole_numbers(z: Sums, t: Tally) -> Tally {
     if kind == 1 {
         return kinds;
     }
-    let root = moments::deviation(z.n, vf(z));
+    let root = rivals::deviation(z.n, vf(z));
     kinds
-        .with(answers::whole_given(mean), moments::mean(z.n, z.s))
-        .with(
-            answers::whole_given(variance),
-            moments::variance(z.n, vf(z)),
-        )
+        .with(answers::whole_given(mean), rivals::mean(z.n, z.s))
+        .with(answers::whole_given(variance), rivals::variance(z.n, vf(z)))
         .with(answers::whole_given(deviation), (root % 65536) as i64)
 }
 
@@ -63,17 +60,17 @@ fn one_if(holds: bool) -> u64 {
 
 // "Empty if N = 0; Steady with a level if Vf = 0; otherwise Grainy with a level and a spread."
 fn voice(z: Sums, t: Tally) -> Tally {
-    let heard = answers::heard_parts(statistics::voice_answer(z));
+    let heard = answers::heard_parts(moments::voice_answer(z));
     if z.n == 0 {
         return t.with_natural(heard.kind, 1);
     }
-    let level = moments::part(moments::level(moments::raised_mean(z.n, z.s)));
+    let level = rivals::part(rivals::level(rivals::raised_mean(z.n, z.s)));
     let seen = t.with_natural(one_if(heard.level == level), 1);
     let square = vf(z);
     if square == 0 {
         return seen.with_natural(heard.kind, 2);
     }
-    let spread = moments::part((moments::deviation(z.n, square) % 32768) as i16);
+    let spread = rivals::part((rivals::deviation(z.n, square) % 32768) as i16);
     seen.with_natural(heard.kind, 3)
         .with_natural(one_if(heard.spread == spread), 1)
 }
@@ -94,7 +91,7 @@ fn wanted_coefficient(z: Sums) -> u64 {
 
 // The coefficient; its value is compared where 64 bits hold the products, and always has its part in the checksum.
 fn coefficient(z: Sums, t: Tally) -> Tally {
-    let answer = statistics::coefficient(z);
+    let answer = correlation::coefficient(z);
     let kind = wanted_coefficient(z);
     let given = answers::coefficient_given(answer);
     let seen = t.with_natural(answers::coefficient_kind(answer), kind);
@@ -111,7 +108,7 @@ fn coefficient(z: Sums, t: Tally) -> Tally {
     }
     seen.with(
         given,
-        moments::coefficient(f, g, moments::central(z.n, z.p, z.s, z.t)),
+        rivals::coefficient(f, g, rivals::central(z.n, z.p, z.s, z.t)),
     )
 }
 
@@ -177,7 +174,7 @@ fn named(tally: Tally) -> Tally {
 
 // The coefficient where it is known.
 fn known(z: Sums, value: i64, t: Tally) -> Tally {
-    let answer = statistics::coefficient(z);
+    let answer = correlation::coefficient(z);
     let seen = of_sums(z, t);
     seen.with(answers::coefficient_given(answer), value)
 }
