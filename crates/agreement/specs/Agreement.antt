@@ -23,7 +23,7 @@ use Rattle.picture.specs.declared.Size.{Size}
 use Rattle.picture.specs.Size.{cells}
 use Rattle.picture.specs.Conditions.{accepted}
 use Rattle.picture.specs.Direct.{directSum, directCall}
-use Rattle.table.specs.Table.{buildCall, readCall}
+use Rattle.cumulative.specs.Table.{buildCall, readCall}
 use Rattle.session.specs.Rows.{RowOutcome, rowCall, rowChecks}
 use Rattle.statistics.specs.declared.Sums.{Sums}
 use Rattle.statistics.specs.SixSums.{sixSums}
