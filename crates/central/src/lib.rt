@@ -6,11 +6,11 @@ ghost use Rattle.statistics.specs.Central.{centralCall};
 ghost use Rattle.statistics.specs.Answers.{centralOutcome};
 ghost use Rattle.statistics.specs.Limits.{Factors};
 use machine::magnitude;
-use machine::wide::at_most;
-use machine::wide::multiply;
 use statistics::CentralAnswer;
 use statistics::CentralMoments;
 use statistics::Sums;
+use wide::at_most;
+use wide::multiply;
 
 // The bounds of 9. N is tested first, so that its multiples fit.
 fn unbounded(z: Sums) -> bool

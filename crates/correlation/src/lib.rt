@@ -1,20 +1,20 @@
 // How two pictures go together: the coefficient.
 ghost use mathlib.Core.Path.{_≡_};
 ghost use Rattle.numbers.specs.Round.{rootOver};
-ghost use Rattle.machine.specs.Words.{value, scaledValue};
+ghost use Rattle.wide.specs.Words.{value, scaledValue};
 ghost use Rattle.statistics.specs.Coefficient.{coefficientCall};
 ghost use Rattle.statistics.specs.Answers.{coefficientOutcome};
 ghost use Rattle.statistics.specs.Limits.{Correlated};
 use central::central_moments;
 use machine::magnitude;
-use machine::wide::Product;
-use machine::wide::Scaled;
-use machine::wide::multiply;
-use machine::wide::scale;
-use machine::wide::scaled_at_most;
 use statistics::CentralAnswer;
 use statistics::CoefficientAnswer;
 use statistics::Sums;
+use wide::Product;
+use wide::Scaled;
+use wide::multiply;
+use wide::scale;
+use wide::scaled_at_most;
 
 // The largest c with c²·x ≤ y, by halving the numbers up to 1,000.
 fn wide_root(y: Scaled, x: Product) -> u32

@@ -14,7 +14,7 @@ use mir.Facts.{toZ-ofZ, toZ-pos}
 use Rattle.numbers.specs.Round.{rootOver}
 use Rattle.numbers.proofs.Magnitudes.{fits64, size-sub}
 use Rattle.picture.specs.Refusal.{answered}
-use Rattle.machine.specs.Words.{value, scaledValue}
+use Rattle.wide.specs.Words.{value, scaledValue}
 use Rattle.statistics.specs.declared.Sums.{Sums}
 use Rattle.statistics.specs.SixSums.{Vf, Vg, covariance, count}
 use Rattle.statistics.specs.Coefficient as coefficients

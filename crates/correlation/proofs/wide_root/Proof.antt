@@ -8,7 +8,7 @@ use lib.Dec.{leb}
 use borrow.Author.Tests.{leb-true, leb-false}
 use mir.Syntax.{w32}
 use mir.Val.{Fits}
-use Rattle.machine.specs.Words.{value, scaledValue}
+use Rattle.wide.specs.Words.{value, scaledValue}
 use Rattle.statistics.proofs.Halving.{Between, start, first-half, second-half, found}
 use Rattle.correlation.proofs.wide_root.Statement.{statement}
 use Rattle.correlation.proofs.wide_root.Tie as tie

@@ -1,13 +1,13 @@
--- `machine::wide::at_most` meets its contract: the first words that differ decide. Assumes nothing.
+-- `wide::at_most` meets its contract: the first words that differ decide. Assumes nothing.
 use borrow.Author.Needs.{needs}
 use mathlib.Core.Path.{sym}
 use Prim.Native.Nat.{_<_, _^_}
 use native.Mathlib.Nat.{le-of-lt, le-antisymm}
 use borrow.Author.Tests.{le-leb, lt-leb}
-use Rattle.machine.specs.Words.{value}
-use Rattle.machine.proofs.Digits.{upper-less, upper-same}
-use Rattle.machine.proofs.wide.at_most.Statement.{statement}
-use Rattle.machine.proofs.wide.at_most.Tie as tie
+use Rattle.wide.specs.Words.{value}
+use Rattle.wide.proofs.Digits.{upper-less, upper-same}
+use Rattle.wide.proofs.at_most.Statement.{statement}
+use Rattle.wide.proofs.at_most.Tie as tie
 
 x-low : (c : tie.Start) → c .args .x .low < 2 ^ 64
 x-low c = search needs

@@ -2,7 +2,7 @@
 ghost use mathlib.Core.Path.{_≡_};
 ghost use Prim.Native.Nat.{_*_};
 ghost use lib.Dec.{leb};
-ghost use Rattle.machine.specs.Words.{value, scaledValue};
+ghost use Rattle.wide.specs.Words.{value, scaledValue};
 
 // high · 2^64 + low
 pub struct Product {

@@ -1,14 +1,14 @@
--- `machine::wide::scaled_at_most` meets its contract: the top words decide, and the rest where they are the same. Assumes nothing.
+-- `wide::scaled_at_most` meets its contract: the top words decide, and the rest where they are the same. Assumes nothing.
 use borrow.Author.Needs.{needs}
 use mathlib.Core.Path.{sym, _∙_}
 use Prim.Native.Nat.{_+_, _*_, _<_, _^_}
 use native.Mathlib.Nat.{le-of-lt, le-antisymm}
 use borrow.Author.Tests.{le-leb, lt-leb}
-use Rattle.machine.specs.declared.wide.Scaled.{Scaled}
-use Rattle.machine.specs.Words.{scaledValue}
-use Rattle.machine.proofs.Digits.{upper-less, top-same}
-use Rattle.machine.proofs.wide.scaled_at_most.Statement.{statement}
-use Rattle.machine.proofs.wide.scaled_at_most.Tie as tie
+use Rattle.wide.specs.declared.Scaled.{Scaled}
+use Rattle.wide.specs.Words.{scaledValue}
+use Rattle.wide.proofs.Digits.{upper-less, top-same}
+use Rattle.wide.proofs.scaled_at_most.Statement.{statement}
+use Rattle.wide.proofs.scaled_at_most.Tie as tie
 
 less : (x y : Scaled) → x .top < y .top → x .middle < 2 ^ 64 → x .low < 2 ^ 64 → scaledValue x < scaledValue y
 less x y h m l =

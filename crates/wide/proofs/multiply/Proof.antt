@@ -1,10 +1,10 @@
--- `machine::wide::multiply` meets its contract: four products of two digits each. Assumes nothing.
+-- `wide::multiply` meets its contract: four products of two digits each. Assumes nothing.
 use borrow.Author.Needs.{needs}
 use Prim.Native.Nat.{_/_, _%_, _<_}
 use native.Mathlib.Omega.{arith}
-use Rattle.machine.proofs.Digits.{base, digits, digits-fit, carry, product}
-use Rattle.machine.proofs.wide.multiply.Statement.{statement}
-use Rattle.machine.proofs.wide.multiply.Tie as tie
+use Rattle.wide.proofs.Digits.{base, digits, digits-fit, carry, product}
+use Rattle.wide.proofs.multiply.Statement.{statement}
+use Rattle.wide.proofs.multiply.Tie as tie
 
 -- a digit of each
 module _ (c : tie.Start) where

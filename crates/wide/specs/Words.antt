@@ -1,8 +1,8 @@
 -- The number that words of 64 bits stand for.
 -- Assumes nothing.
 use Prim.Native.Nat.{ℕ, _+_, _*_, _^_}
-use Rattle.machine.specs.declared.wide.Product.{Product}
-use Rattle.machine.specs.declared.wide.Scaled.{Scaled}
+use Rattle.wide.specs.declared.Product.{Product}
+use Rattle.wide.specs.declared.Scaled.{Scaled}
 
 abbrev pub value : Product → ℕ
 value x = x .high * 2 ^ 64 + x .low

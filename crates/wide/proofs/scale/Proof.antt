@@ -1,10 +1,10 @@
--- `machine::wide::scale` meets its contract: four digits, each times k, with their carries. Assumes nothing.
+-- `wide::scale` meets its contract: four digits, each times k, with their carries. Assumes nothing.
 use borrow.Author.Needs.{needs}
 use Prim.Native.Nat.{_<_, _^_}
 use native.Mathlib.Omega.{arith}
-use Rattle.machine.proofs.Digits.{base, digits-fit, first-fits, second-fits, third-fits, fourth-fits, scaled}
-use Rattle.machine.proofs.wide.scale.Statement.{statement}
-use Rattle.machine.proofs.wide.scale.Tie as tie
+use Rattle.wide.proofs.Digits.{base, digits-fit, first-fits, second-fits, third-fits, fourth-fits, scaled}
+use Rattle.wide.proofs.scale.Statement.{statement}
+use Rattle.wide.proofs.scale.Tie as tie
 
 high : (c : tie.Start) → c .args .x .high < 2 ^ 64
 high c = search needs
