@@ -18,7 +18,7 @@ use Rattle.picture.specs.declared.Window.{Window}
 use Rattle.picture.specs.declared.Shift.{Shift}
 use Rattle.picture.specs.Picture.{Source, Inputs, inputs}
 use Rattle.picture.specs.Direct.{directSum, directChecks, directCall}
-use Rattle.table.specs.Table.{tableOf, buildChecks, buildCall, readTable, readChecks, readCall}
+use Rattle.cumulative.specs.Table.{tableOf, buildChecks, buildCall, readTable, readChecks, readCall}
 use Rattle.session.specs.Rows.{rowChecks, rowResult, rowCall}
 use Rattle.statistics.specs.declared.Sums.{Sums}
 use Rattle.statistics.specs.SixSums.{impossible, unless9}

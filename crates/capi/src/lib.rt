@@ -9,7 +9,7 @@
 // what panel prints.)
 
 pub mod sums; // sums.rt: direct sum, cumulative table and row session
-pub mod moments; // moments.rt: the statistics of six sums
+pub mod six_sums; // six_sums.rt: the statistics of six sums
 pub mod pictures; // pictures.rt: smoothing, the steady search and panel
 
 // The statuses of answers with no value.

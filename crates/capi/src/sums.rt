@@ -4,7 +4,7 @@ ghost use Rattle.picture.specs.Size.{size};
 ghost use Rattle.picture.specs.Window.{window};
 ghost use Rattle.picture.specs.Picture.{shift, source, inputs};
 ghost use Rattle.picture.specs.Direct.{directCall};
-ghost use Rattle.table.specs.Table.{buildCall, readCall};
+ghost use Rattle.cumulative.specs.Table.{buildCall, readCall};
 ghost use Rattle.session.specs.Rows.{rowCall};
 ghost use Rattle.capi.specs.Reply.{withValue, status, resultOr, reply};
 use picture::Cell;

@@ -3,7 +3,6 @@
 ghost use mathlib.Core.Path.{_≡_};
 ghost use Rattle.numbers.specs.Round.{nearest};
 ghost use Rattle.quotients.specs.Quotients.{Divisor, reciprocal, Dividend};
-use machine::wide;
 
 // What stands for a division by 2d: a number multiplied by it is divided in the upper 64 bits of the product.
 pub fn reciprocal(d: u64) -> u64

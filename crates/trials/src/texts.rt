@@ -1,9 +1,9 @@
 // Panel's texts: taken ones, and every kind of refused one, beside outputs written out.
 ghost use mathlib.Core.Path.{_≡_};
 ghost use lib.ListN.{length};
-use crate::areas;
-use crate::tally;
-use crate::tally::Tally;
+use trial_tools::areas;
+use trial_tools::tally;
+use trial_tools::tally::Tally;
 
 // The bytes of the output, compared with what is expected.
 fn compare(out: &[u8], expected: &[u8], tally: Tally) -> Tally {

@@ -10,8 +10,8 @@ use lib.Signed.{_≤ℤ_, nonNeg}
 use mir.Syntax.{w64}
 use mir.Val.{Fits, SFits, toZ}
 use mir.Facts.{toZ-ofZ, toZ-pos}
-use Rattle.machine.specs.declared.wide.Product.{Product}
-use Rattle.machine.specs.Words.{value}
+use Rattle.wide.specs.declared.Product.{Product}
+use Rattle.wide.specs.Words.{value}
 use Rattle.numbers.specs.Round.{nearest}
 use Rattle.numbers.proofs.Integers.{add-law, mul-law, leℤ}
 use Rattle.numbers.proofs.Magnitudes.{size, size-mul, size-add, size-sub, fits64}

@@ -6,7 +6,7 @@ use Rattle.picture.specs.Refusal.{Filling, refused}
 use Rattle.picture.specs.Size.{size}
 use Rattle.picture.specs.Picture.{shift, source}
 use Rattle.picture.specs.Answers.{fillOutcome}
-use Rattle.table.specs.Table.{buildCall}
+use Rattle.cumulative.specs.Table.{buildCall}
 use Rattle.capi.specs.Reply.{withValue}
 use Rattle.capi.proofs.Numbers.{build-small, small-fits}
 use Rattle.capi.proofs.Replies.{refused-returns, value-returns}

@@ -9,7 +9,7 @@ use Rattle.picture.specs.Refusal.{Outcome, refused}
 use Rattle.picture.specs.Size.{size}
 use Rattle.picture.specs.Window.{window}
 use Rattle.picture.specs.Answers.{sumOutcome}
-use Rattle.table.specs.Table.{readCall}
+use Rattle.cumulative.specs.Table.{readCall}
 use Rattle.capi.specs.Reply.{withValue}
 use Rattle.capi.proofs.Numbers.{read-small, small-fits}
 use Rattle.capi.proofs.Replies.{refused-returns, value-returns}
