@@ -1,3 +1,4 @@
 pub mod Steps
 pub mod Calls
 pub mod Examples
+pub mod Distances
