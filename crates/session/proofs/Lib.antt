@@ -2,3 +2,4 @@ pub mod Steps
 pub mod Calls
 pub mod Examples
 pub mod Distances
+pub mod Cells
