@@ -3,3 +3,4 @@ pub mod Calls
 pub mod Examples
 pub mod Distances
 pub mod Cells
+pub mod Strips

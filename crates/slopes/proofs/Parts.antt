@@ -18,7 +18,7 @@ use Rattle.session.specs.Rows.{cellBelow, cellAbove, enterLeave, workChange}
 use Rattle.session.specs.Distances.{atDistance}
 use Rattle.session.proofs.Cells.{cell-below, cell-above, none-above}
 use Rattle.session.proofs.Distances.{at-distance-some, near-last}
-use Rattle.slopes.specs.Slopes.{padded, rising, falling}
+use Rattle.slopes.specs.Slopes.{padded, rising, falling, edgesChange}
 use Rattle.slopes.proofs.Moves.{padded-cell, padded-above, padded-left, padded-right}
 
 module _ (z : Size) (P : ℕ → ℕ → ℤ) (past : (m n : ℕ) → z .rows ≤ m → P m n ≡ pos 0) (beside : (m n : ℕ) → z .columns ≤ n → P m n ≡ pos 0) where
@@ -117,8 +117,7 @@ module _ (z : Size) (P : ℕ → ℕ → ℤ) (past : (m n : ℕ) → z .rows �
         ∙ ap₂ _+ℤ_ (sum-cong (z .columns) _ _ (λ n n<. flat-at n (decLt (w - h) (dist j n)))) slopes
 
   -- what a column adds is what the flat part and the slopes add
-  pub change-parts : (s : Shape) → isRectangle s ≡ false → height s ≤ 127 → width s ≤ 127 → (i j : ℕ) → j < z .columns → workChange z P s i j ≡
-      sumTo (z .columns) (λ n. pick (leb (columnGap z j n) (width s - height s)) (enterLeave z P i (height s) n)) +ℤ (rising Q (width s) (height s) (128 + i) (256 + j) +ℤ falling Q (width s) (height s) (128 + i) (256 + j))
-  unfolding workChange
+  pub change-parts : (s : Shape) → isRectangle s ≡ false → height s ≤ 127 → width s ≤ 127 → (i j : ℕ) → j < z .columns → workChange z P s i j ≡ edgesChange z P (height s) (width s) i j
+  unfolding workChange edgesChange
   change-parts (rectangle a b) e low narrow i j j< = absurd (true≢false e)
   change-parts (slanted o) e low narrow i j j< = parts (slanted o) e low narrow i j j<

@@ -3,8 +3,11 @@
 -- Assumes nothing.
 use Prim.Native.Nat.{ℕ, _+_, _-_}
 use lib.Dec.{leb}
-use lib.IntN.{ℤ, _-ℤ_}
+use lib.IntN.{ℤ, _+ℤ_, _-ℤ_}
 use Rattle.numbers.specs.Sum.{sumTo, pick}
+use Rattle.picture.specs.declared.Size.{Size}
+use Rattle.picture.specs.Size.{columnGap}
+use Rattle.session.specs.Rows.{enterLeave}
 
 -- a plane 128 rows further down and 256 columns further right, with zeros above and on the left: no place of a window then lies before row or column 0
 unfoldable pub padded : (ℕ → ℕ → ℤ) → (y x : ℕ) → ℤ
@@ -18,3 +21,8 @@ rising Q w n y x = sumTo n (λ t. Q (y + 1 + t) (x + w - t) -ℤ Q (y - t) (x + 
 -- those that fall: the lower edge's left slope less the upper edge's right slope
 unfoldable pub falling : (ℕ → ℕ → ℤ) → (w n y x : ℕ) → ℤ
 falling Q w n y x = sumTo n (λ t. Q (y + 1 + t) (x + t - w) -ℤ Q (y - t) (x + w - t))
+
+-- what column j adds from row i to i+1 to the sum over a window of height h and width w: what enters and leaves at the flat parts of its edges, and at the slopes
+unfoldable pub edgesChange : Size → (ℕ → ℕ → ℤ) → (h w i j : ℕ) → ℤ
+edgesChange z P h w i j =
+    sumTo (z .columns) (λ n. pick (leb (columnGap z j n) (w - h)) (enterLeave z P i h n)) +ℤ (rising (padded P) w h (128 + i) (256 + j) +ℤ falling (padded P) w h (128 + i) (256 + j))
