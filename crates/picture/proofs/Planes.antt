@@ -11,7 +11,7 @@ use lib.ListN.{getD}
 use lib.IntN.{ℤ, pos, negsuc, natAbs, _+ℤ_, _*ℤ_}
 use Rattle.numbers.specs.Sum.{pick}
 use Rattle.numbers.proofs.Sums.{pick-bound, pick-no}
-use Rattle.numbers.proofs.Tests.{and-left}
+use Rattle.numbers.proofs.Tests.{and-left, and-right}
 use Rattle.numbers.proofs.Magnitudes.{size-mul}
 use lib.Signed.{mag, natAbs-le}
 use Rattle.picture.specs.Size.{inRange, inside, rowAt, columnAt}
@@ -40,10 +40,17 @@ module _ (x : Source) (hf : Levels (x .f)) (hg : Levels (x .g)) where
   unfolding planeAt
   plane-bound m n = omega (arith, pick-bound (counts x m n) (planeValue (x .plane) (levelOf x m n) (otherOf x m n)), value-bound (x .plane) (levelOf x m n) (otherOf x m n) (level-bound m n) (other-bound m n))
 
--- past the last row no cell counts
+-- past the last row no cell counts, and none past the last column
 pub plane-past : (x : Source) (m n : ℕ) → x .size .rows ≤ m → planeAt x m n ≡ pos 0
 unfolding planeAt counts inRange
 plane-past x m n h =
     let here = ltb m (x .size .rows) && ltb n (x .size .columns) in
     let there = inside (x .size) (pos m +ℤ x .shift .down) (pos n +ℤ x .shift .right) in
     pick-no (counts x m n) _ (λ t. omega (arith, ltb→lt m (x .size .rows) (and-left (ltb m (x .size .rows)) (ltb n (x .size .columns)) (and-left here there t))))
+
+pub plane-past-columns : (x : Source) (m n : ℕ) → x .size .columns ≤ n → planeAt x m n ≡ pos 0
+unfolding planeAt counts inRange
+plane-past-columns x m n h =
+    let here = ltb m (x .size .rows) && ltb n (x .size .columns) in
+    let there = inside (x .size) (pos m +ℤ x .shift .down) (pos n +ℤ x .shift .right) in
+    pick-no (counts x m n) _ (λ t. omega (arith, ltb→lt n (x .size .columns) (and-right (ltb m (x .size .rows)) (ltb n (x .size .columns)) (and-left here there t))))
