@@ -4,9 +4,9 @@ use mathlib.Core.Path.{_≡_, refl, sym, _∙_, ap}
 use Prim.Native.Nat.{ℕ, _+_, _-_, _≤_, _<_}
 use native.Mathlib.Omega.{arith}
 use native.Mathlib.Decide.{decLt}
-use mathlib.Core.Bool.{Bool, true, false, _&&_}
+use mathlib.Core.Bool.{Bool, true, false}
 use mathlib.Core.List.{List}
-use lib.Dec.{T, leb, ltb, leb→le, ltb→lt, le→leb}
+use lib.Dec.{leb, ltb, leb→le, ltb→lt, le→leb}
 use lib.ListN.{length}
 use lib.IntN.{ℤ, pos}
 use borrow.Rule.Slice.PartMut.{putMid}
@@ -117,9 +117,12 @@ module _ (P : ℕ → ℕ → ℤ) (columns y : ℕ) (buf part : List ℤ) (blan
     each = λ x. place-at F n e h x (decLt x 256) (decLt x (256 + columns));
   }
 
-  -- the plane has no such row
+  -- the plane has no such row above its first, nor below its last
   pub load-above : y < 128 → (n : ℕ) → part ≡ tabulate n (λ k. pos 0) → Holds put (padded P y)
   load-above h n e = loaded (λ k. pos 0) n e (λ k k<. sym (pick-no (leb 128 y) (P (y - 128) k) (λ t. omega (arith, leb→le 128 y t))))
+
+  pub load-below : ((k : ℕ) → P (y - 128) k ≡ pos 0) → 128 ≤ y → (n : ℕ) → part ≡ tabulate n (λ k. pos 0) → Holds put (padded P y)
+  load-below none h n e = loaded (λ k. pos 0) n e (λ k k<. sym (pick-yes (leb 128 y) (P (y - 128) k) (le→leb 128 y h) ∙ none k))
 
   pub load-row : 128 ≤ y → (n : ℕ) → part ≡ tabulate n (P (y - 128)) → Holds put (padded P y)
   load-row h n e = loaded (P (y - 128)) n e (λ k k<. sym (pick-yes (leb 128 y) (P (y - 128) k) (le→leb 128 y h)))

@@ -1,7 +1,7 @@
 // Planes 0, 1 and 2, whose values are ones and levels: rows of 16 bits, and slopes of 32.
 // For callers that have checked their inputs.
 ghost use mathlib.Core.Path.{_≡_};
-ghost use Prim.Native.Nat.{_+_, _-_, _^_, _≤_, _<_};
+ghost use Prim.Native.Nat.{_+_, _^_, _≤_, _<_};
 ghost use lib.IntN.{pos, _+ℤ_, _-ℤ_};
 ghost use lib.ListN.{length, getD};
 ghost use lib.Signed.{mag};

@@ -1,7 +1,7 @@
 -- `leans::narrow::gather` meets its contract. Assumes nothing.
 use borrow.Author.Needs.{needs}
 use mathlib.Core.Path.{_≡_, _∙_, ap}
-use Prim.Native.Nat.{ℕ, _+_, _-_, _^_, _≤_, _<_}
+use Prim.Native.Nat.{_+_, _-_, _^_, _≤_}
 use native.Mathlib.Omega.{arith}
 use lib.IntN.{ℤ, _+ℤ_, _-ℤ_}
 use lib.Signed.{mag}
