@@ -1,3 +1,5 @@
 pub mod Steps
 pub mod Calls
 pub mod Examples
+pub mod Distances
+pub mod Cells

@@ -7,7 +7,7 @@ use lib.ListN.{length, take, drop}
 use Rattle.numbers.proofs.Writes.{slice-length, part-length}
 use Rattle.picture.specs.Picture.{Source, source, planeAt}
 use Rattle.picture.proofs.Refusals.{in-limits}
-use Rattle.picture.proofs.Planes.{plane-past-columns}
+use Rattle.picture.proofs.Planes.{plane-beside}
 use Rattle.leans.proofs.Rows.{load-above, load-row}
 use Rattle.leans.proofs.narrow.load.Statement.{statement}
 use Rattle.leans.proofs.narrow.load.Tie as tie
@@ -56,7 +56,7 @@ same-length c =
 returns : tie.Need-returns
 returns c =
     let s = c .before .before .before .before .before in
-    load-above (planeAt (pictures s)) (columns s) (s .args .y) (s .args .buf .now) _ (s .pre .1 .blank) (few s) (plane-past-columns (pictures s)) (c .before .fill .kept .0 ∙ lent s) (c .before .before .before .if1 .taken) _ (c .before .fill .ensures)
+    load-above (planeAt (pictures s)) (columns s) (s .args .y) (s .args .buf .now) _ (s .pre .1 .blank) (few s) (plane-beside (pictures s)) (c .before .fill .kept .0 ∙ lent s) (c .before .before .before .if1 .taken) _ (c .before .fill .ensures)
 
 mul-row : tie.Need-mul-row
 mul-row c = search needs
@@ -84,7 +84,7 @@ same-length-2 c =
 returns-2 : tie.Need-returns-2
 returns-2 c =
     let s = c .before .before .before .before .before in
-    load-row (planeAt (pictures s)) (columns s) (s .args .y) (s .args .buf .now) _ (s .pre .1 .blank) (few s) (plane-past-columns (pictures s)) (c .before .row .kept .1 .1 .1 .1 .1 .1 .0 ∙ lent s) (c .before .before .before .if1 .left) _ (c .before .row .ensures)
+    load-row (planeAt (pictures s)) (columns s) (s .args .y) (s .args .buf .now) _ (s .pre .1 .blank) (few s) (plane-beside (pictures s)) (c .before .row .kept .1 .1 .1 .1 .1 .1 .0 ∙ lent s) (c .before .before .before .if1 .left) _ (c .before .row .ensures)
 
 pub load-spec : {M : Type 1} → statement M
 load-spec =

@@ -7,7 +7,7 @@ use lib.ListN.{length, take, drop}
 use Rattle.numbers.proofs.Writes.{slice-length, part-length}
 use Rattle.picture.specs.Picture.{Source, source, planeAt}
 use Rattle.picture.proofs.Refusals.{in-limits}
-use Rattle.picture.proofs.Planes.{plane-past, plane-past-columns}
+use Rattle.picture.proofs.Planes.{plane-past, plane-beside}
 use Rattle.planes.proofs.RowParts.{tabulate-as}
 use Rattle.leans.proofs.Rows.{load-above, load-row, load-below}
 use Rattle.leans.proofs.wide.load.Statement.{statement}
@@ -60,7 +60,7 @@ same-length c =
 returns : tie.Need-returns
 returns c =
     let s = c .before .before .before .before .before in
-    load-above (planeAt (pictures s)) (columns s) (s .args .y) (s .args .buf .now) _ (s .pre .blank) (few s) (plane-past-columns (pictures s)) (c .before .fill .kept .0 ∙ lent s) (c .before .before .before .if1 .taken) _ (c .before .fill .ensures)
+    load-above (planeAt (pictures s)) (columns s) (s .args .y) (s .args .buf .now) _ (s .pre .blank) (few s) (plane-beside (pictures s)) (c .before .fill .kept .0 ∙ lent s) (c .before .before .before .if1 .taken) _ (c .before .fill .ensures)
 
 mul-part : tie.Need-mul-part
 mul-part c = search needs
@@ -87,7 +87,7 @@ same-length-2 c =
 returns-2 : tie.Need-returns-2
 returns-2 c =
     let s = c .before .before .before .before .before .before .before in
-    load-row (planeAt (pictures s)) (columns s) (s .args .y) (s .args .buf .now) _ (s .pre .blank) (few s) (plane-past-columns (pictures s)) (c .before .part .kept .1 .1 .1 .1 .1 .1 .1 .0 ∙ lent s) (c .before .before .before .before .before .if1 .left) _
+    load-row (planeAt (pictures s)) (columns s) (s .args .y) (s .args .buf .now) _ (s .pre .blank) (few s) (plane-beside (pictures s)) (c .before .part .kept .1 .1 .1 .1 .1 .1 .1 .0 ∙ lent s) (c .before .before .before .before .before .if1 .left) _
     (tabulate-as _ _ _ _ (c .before .part .ensures) (λ k. ap (planeAt (pictures s) (s .args .y - 128)) (from-0 k)))
 
 mul-fill-2 : tie.Need-mul-fill-2
@@ -113,7 +113,7 @@ same-length-3 c =
 returns-3 : tie.Need-returns-3
 returns-3 c =
     let s = c .before .before .before .before .before .before .before in
-    load-below (planeAt (pictures s)) (columns s) (s .args .y) (s .args .buf .now) _ (s .pre .blank) (few s) (plane-past-columns (pictures s)) (c .before .fill2 .kept .0 ∙ lent s)
+    load-below (planeAt (pictures s)) (columns s) (s .args .y) (s .args .buf .now) _ (s .pre .blank) (few s) (plane-beside (pictures s)) (c .before .fill2 .kept .0 ∙ lent s)
     (λ k. plane-past (pictures s) (s .args .y - 128) k (c .before .before .before .if2 .left)) (c .before .before .before .before .before .if1 .left) _ (c .before .fill2 .ensures)
 
 pub load-spec : {M : Type 1} → statement M
