@@ -1,7 +1,7 @@
 // Planes 0, 1 and 2, whose values are ones and levels: rows of 16 bits, and slopes of 32.
 // For callers that have checked their inputs.
 ghost use mathlib.Core.Path.{_≡_};
-ghost use Prim.Native.Nat.{_+_, _-_, _^_, _≤_, _<_};
+ghost use Prim.Native.Nat.{_+_, _^_, _≤_, _<_};
 ghost use lib.IntN.{pos, _+ℤ_, _-ℤ_};
 ghost use lib.ListN.{length, getD};
 ghost use lib.Signed.{mag};
@@ -58,25 +58,25 @@ fn row(size: Size, f: &[i16], g: &[i16], shift: Shift, plane: u32, row: usize, o
 {
     let rows = size.rows;
     let columns = size.columns;
+    let right = shift.right;
     let counting = planes::overlap_of(rows, shift.down);
-    let along = planes::overlap_of(columns, shift.right);
+    let along = planes::overlap_of(columns, right);
     let line = change::line::line_of(size, counting, along, row);
     fill(out, 0);
-    if !line.counts {
-        return;
+    if line.counts {
+        let first = along.first;
+        let end = along.end;
+        let from_f = line.f;
+        let from_g = line.g;
+        let upto_f = from_f + (end - first);
+        let upto_g = from_g + (end - first);
+        values(
+            plane,
+            &f[from_f..upto_f],
+            &g[from_g..upto_g],
+            &mut out[first..end],
+        );
     }
-    let first = along.first;
-    let end = along.end;
-    let from_f = line.f;
-    let from_g = line.g;
-    let upto_f = from_f + (end - first);
-    let upto_g = from_g + (end - first);
-    values(
-        plane,
-        &f[from_f..upto_f],
-        &g[from_g..upto_g],
-        &mut out[first..end],
-    );
 }
 
 // Row y of the padded plane stands in buf: row y - 128 of the plane, and zeros where there is none.

@@ -1,7 +1,7 @@
 // Planes 3, 4 and 5, whose values are products of levels: rows and slopes of 64 bits.
 // For callers that have checked their inputs.
 ghost use mathlib.Core.Path.{_≡_};
-ghost use Prim.Native.Nat.{_+_, _^_, _≤_};
+ghost use Prim.Native.Nat.{_^_, _≤_};
 ghost use lib.IntN.{_+ℤ_, _-ℤ_};
 ghost use lib.ListN.{length};
 ghost use lib.Signed.{mag};
