@@ -29,7 +29,7 @@ module _ (n j : ℕ) (F : ℕ → ℕ → ℤ) (inside : j < n) where
   near w = sumTo n (λ k. pick (leb (dist j k) w) (F (dist j k) k))
 
   -- distance 0 is column j itself
-  near-0 : near 0 ≡ F 0 j
+  pub near-0 : near 0 ≡ F 0 j
   near-0 =
       let e : suc (j + 0) ≡ suc j = omega arith in
       let e' : min (suc j) n ≡ suc j = omega arith in
