@@ -1,7 +1,7 @@
--- What the loops of the slopes ask of their callers, at each call: room for every place, and slopes that are not large.
+-- What the loops of the slopes ask of their callers: room for every place, and slopes that are not large.
 -- Assumes nothing.
 use mathlib.Core.Path.{_≡_, sym, _∙_}
-use Prim.Native.Nat.{ℕ, _+_, _-_, _*_, _≤_, _<_}
+use Prim.Native.Nat.{ℕ, _+_, _*_, _≤_}
 use native.Mathlib.Omega.{arith}
 use native.Mathlib.Nat.{mul-le-mul-right}
 use mathlib.Core.List.{List}
@@ -10,7 +10,7 @@ use lib.IntN.{ℤ, natAbs}
 use Rattle.picture.specs.Picture.{Source, planeAt}
 use Rattle.picture.proofs.Refusals.{in-limits}
 use Rattle.slopes.specs.Slopes.{padded}
-use Rattle.leans.specs.Leans.{Blank, Holds, LoadAsked, GatherAsked, SlideAsked, FinishAsked}
+use Rattle.leans.specs.Leans.{Blank, LoadAsked, GatherAsked, FinishAsked}
 use Rattle.steps.specs.Asked.{FlatAsked}
 use Rattle.edges.specs.Edges.{Slopes, EdgesAsked}
 use Rattle.edges.proofs.Kept.{within-rises, within-falls}
@@ -36,75 +36,42 @@ module _ (x : Source) (i h w : ℕ) (e : EdgesAsked x i h w) where
     room = k;
   }
 
-  -- values of at most B, and slopes of at most M
-  module _ (B M : ℕ) (small : (y n : ℕ) → natAbs (Q y n) ≤ B) (large : 127 * (2 * B) ≤ M) where
-    few : (n : ℕ) → n ≤ 127 → n * (2 * B) ≤ M
-    few n l = omega (arith, mul-le-mul-right (2 * B) l, large)
+  -- values of at most B, and slopes of n cells, which are at most M
+  module _ (B M : ℕ) (small : (y k : ℕ) → natAbs (Q y k) ≤ B) (large : 127 * (2 * B) ≤ M) (n y m : ℕ) (rises falls : List ℤ) (few : n ≤ 127) (l : Slopes Q columns w n y m rises falls) where
+    bounded : n * (2 * B) ≤ M
+    bounded = omega (arith, mul-le-mul-right (2 * B) few, large)
 
-    module _ (t : ℕ) (a b rises falls : List ℤ) (inside : t < h) (la : length a ≡ 1536) (lb : length b ≡ 1536) (s : Slopes Q columns w t (128 + i) 0 rises falls) where
-      pub start-rises : GatherAsked M a b (columns + w) 128 (256 + w - t) (256 + t - w) rises
-      start-rises = record {
+    module _ (a b : List ℤ) (count s pa pb : ℕ) (la : length a ≡ 1536) (lb : length b ≡ 1536) (room : count + s ≤ 1536) (room-a : count + pa ≤ 1536) (room-b : count + pb ≤ 1536) where
+      pub rises-asked : 128 + m ≤ s → GatherAsked M a b count s pa pb rises
+      rises-asked h = record {
         length-a = la;
         length-b = lb;
-        length-sums = s .length-rises;
-        room = omega (arith, limits);
-        room-a = omega (arith, limits);
-        room-b = omega (arith, limits);
-        within = within-rises Q B small columns w t (128 + i) 0 rises falls s M 128 (columns + w) (few t (omega (arith, limits))) (omega arith);
+        length-sums = l .length-rises;
+        room = room;
+        room-a = room-a;
+        room-b = room-b;
+        within = within-rises Q B small columns w n y m rises falls l M s count bounded h;
       }
 
-      pub start-falls : GatherAsked M a b (columns + w) (384 - w) (256 + t - 2 * w) (256 - t) falls
-      start-falls = record {
+      pub falls-asked : s + count + m ≤ 384 + columns → GatherAsked M a b count s pa pb falls
+      falls-asked h = record {
         length-a = la;
         length-b = lb;
-        length-sums = s .length-falls;
-        room = omega (arith, limits);
-        room-a = omega (arith, limits);
-        room-b = omega (arith, limits);
-        within = within-falls Q B small columns w t (128 + i) 0 rises falls s M (384 - w) (columns + w) (few t (omega (arith, limits))) (omega (arith, limits));
+        length-sums = l .length-falls;
+        room = room;
+        room-a = room-a;
+        room-b = room-b;
+        within = within-falls Q B small columns w n y m rises falls l M s count bounded h;
       }
 
-    module _ (m : ℕ) (rises falls : List ℤ) (turn : m ≤ 254) (s : Slopes Q columns w h (128 + i) m rises falls) where
-      pub row-finish : {work out : List ℤ} → length work ≡ columns → length out ≡ columns → FinishAsked M rises falls (128 + m) (384 - m) work out
-      row-finish {work} {out} lw lo = record {
-        length-rising = s .length-rises;
-        length-falling = s .length-falls;
-        length-out = lo ∙ sym lw;
-        room-rising = omega (arith, limits);
-        room-falling = omega (arith, limits);
-        within-rising = within-rises Q B small columns w h (128 + i) m rises falls s M (128 + m) (length work) (few h (omega (arith, limits))) (omega arith);
-        within-falling = within-falls Q B small columns w h (128 + i) m rises falls s M (384 - m) (length work) (few h (omega (arith, limits))) (omega arith);
-      }
-
-      module _ (a b c : List ℤ) (la : length a ≡ 1536) (lb : length b ≡ 1536) (lc : length c ≡ 1536) where
-        pub row-rises : SlideAsked M a b c (columns + w) (129 + m) (257 + (w - h)) (257 + w) (256 - w) (256 - (w - h)) rises
-        row-rises = record {
-          gather = record {
-            length-a = la;
-            length-b = lb;
-            length-sums = s .length-rises;
-            room = omega (arith, limits);
-            room-a = omega (arith, limits);
-            room-b = omega (arith, limits);
-            within = within-rises Q B small columns w h (128 + i) m rises falls s M (129 + m) (columns + w) (few h (omega (arith, limits))) (omega arith);
-          };
-          length-c = lc;
-          room-b = omega (arith, limits);
-          room-c = omega (arith, limits);
-        }
-
-        pub row-falls : SlideAsked M a b c (columns + w) (383 - m - w) (255 - w - (w - h)) (255 - 2 * w) 256 (256 - w + (w - h)) falls
-        row-falls = record {
-          gather = record {
-            length-a = la;
-            length-b = lb;
-            length-sums = s .length-falls;
-            room = omega (arith, limits);
-            room-a = omega (arith, limits);
-            room-b = omega (arith, limits);
-            within = within-falls Q B small columns w h (128 + i) m rises falls s M (383 - m - w) (columns + w) (few h (omega (arith, limits))) (omega (arith, limits));
-          };
-          length-c = lc;
-          room-b = omega (arith, limits);
-          room-c = omega (arith, limits);
-        }
+    pub finish-asked : (work out : List ℤ) (p q : ℕ) → length work ≡ columns → length out ≡ columns → 128 + m ≤ p → columns + p ≤ 1536 → q + m ≤ 384 → columns + q ≤ 1536 →
+        FinishAsked M rises falls p q work out
+    finish-asked work out p q lw lo hp rp hq rq = record {
+      length-rising = l .length-rises;
+      length-falling = l .length-falls;
+      length-out = lo ∙ sym lw;
+      room-rising = omega arith;
+      room-falling = omega arith;
+      within-rising = within-rises Q B small columns w n y m rises falls l M p (length work) bounded hp;
+      within-falling = within-falls Q B small columns w n y m rises falls l M q (length work) bounded (omega arith);
+    }

@@ -9,7 +9,7 @@ use Rattle.picture.proofs.Planes.{plane-level, plane-beside}
 use Rattle.slopes.specs.Slopes.{padded}
 use Rattle.slopes.proofs.Moves.{padded-bound}
 use Rattle.edges.proofs.Kept.{blank-of, slopes-next, work-edged}
-use Rattle.edges.proofs.Asks.{limits, load-asked, flat-asked, row-finish, row-rises, row-falls}
+use Rattle.edges.proofs.Asks.{limits, load-asked, flat-asked, rises-asked, falls-asked, finish-asked}
 use Rattle.edges.proofs.narrow.row.Statement.{statement}
 use Rattle.edges.proofs.narrow.row.Tie as tie
 
@@ -43,7 +43,8 @@ sub-finish c = omega (arith, row-limits (c .before .before .before .before .befo
 finish-requires : tie.Need-finish-requires
 finish-requires c κs =
     let s = c .before .before .before .before .before .before .before .before .before .before in
-    row-finish (pictures s) (s .args .i) (s .args .h) (s .args .w) (s .pre .1 .edges) 32768 (2 ^ 29) (small s) (omega arith) (s .args .m) _ _ (s .pre .1 .turn) (s .pre .1 .slopes) (c .before .before .before .before .before .work .given ∙ s .pre .1 .room-work) (c .before .before .before .before .out .given ∙ s .pre .1 .room)
+    let z = row-limits s in
+    finish-asked (pictures s) (s .args .i) (s .args .h) (s .args .w) (s .pre .1 .edges) 32768 (2 ^ 29) (small s) (omega arith) (s .args .h) (128 + s .args .i) (s .args .m) _ _ (omega (arith, z)) (s .pre .1 .slopes) _ _ _ _ (c .before .before .before .before .before .work .given ∙ s .pre .1 .room-work) (c .before .before .before .before .out .given ∙ s .pre .1 .room) (omega (arith, z)) (omega (arith, z)) (omega (arith, z)) (omega (arith, z))
 
 add-load : tie.Need-add-load
 add-load c = omega (arith, row-limits (c .before .before .before .before .before .before .before .before .before .before .before .before .before))
@@ -93,10 +94,11 @@ sub-slide-2 c = omega (arith, row-limits (c .before .before .before .before .bef
 slide-requires : tie.Need-slide-requires
 slide-requires c κs =
     let s = c .before .before .before .before .before .before .before .before .before .before .before .before .before .before .before .before .before .before .before .before .before .before .before in
+    let z = row-limits s in
     let lower = c .before .before .before .before .before .before .before .before .load .ensures in
     let middle = c .before .before .before .before .before .before .load2 .ensures in
     let upper = c .before .before .before .before .load3 .ensures in
-    row-rises (pictures s) (s .args .i) (s .args .h) (s .args .w) (s .pre .1 .edges) 32768 (2 ^ 30) (small s) (omega arith) (s .args .m) _ _ (s .pre .1 .turn) (s .pre .1 .slopes) _ _ _ (lower .size) (middle .size) (upper .size)
+    record { gather = rises-asked (pictures s) (s .args .i) (s .args .h) (s .args .w) (s .pre .1 .edges) 32768 (2 ^ 30) (small s) (omega arith) (s .args .h) (128 + s .args .i) (s .args .m) _ _ (omega (arith, z)) (s .pre .1 .slopes) _ _ _ _ _ _ (lower .size) (middle .size) (omega (arith, z)) (omega (arith, z)) (omega (arith, z)) (omega (arith, z)); length-c = upper .size; room-b = omega (arith, z); room-c = omega (arith, z) }
 
 sub-slide-3 : tie.Need-sub-slide-3
 sub-slide-3 c = omega (arith, row-limits (c .before .before .before .before .before .before .before .before .before .before .before .before .before .before .before .before .before .before .before .before .before .before .before .before .before .before .before))
@@ -125,10 +127,11 @@ add-slide-4 c = omega (arith, row-limits (c .before .before .before .before .bef
 slide-requires-2 : tie.Need-slide-requires-2
 slide-requires-2 c κs =
     let s = c .before .before .before .before .before .before .before .before .before .before .before .before .before .before .before .before .before .before .before .before .before .before .before .before .before .before .before .before in
+    let z = row-limits s in
     let lower = c .before .before .before .before .before .before .before .before .before .before .before .before .before .load .ensures in
     let middle = c .before .before .before .before .before .before .before .before .before .before .before .load2 .ensures in
     let upper = c .before .before .before .before .before .before .before .before .before .load3 .ensures in
-    row-falls (pictures s) (s .args .i) (s .args .h) (s .args .w) (s .pre .1 .edges) 32768 (2 ^ 30) (small s) (omega arith) (s .args .m) _ _ (s .pre .1 .turn) (s .pre .1 .slopes) _ _ _ (lower .size) (middle .size) (upper .size)
+    record { gather = falls-asked (pictures s) (s .args .i) (s .args .h) (s .args .w) (s .pre .1 .edges) 32768 (2 ^ 30) (small s) (omega arith) (s .args .h) (128 + s .args .i) (s .args .m) _ _ (omega (arith, z)) (s .pre .1 .slopes) _ _ _ _ _ _ (lower .size) (middle .size) (omega (arith, z)) (omega (arith, z)) (omega (arith, z)) (omega (arith, z)); length-c = upper .size; room-b = omega (arith, z); room-c = omega (arith, z) }
 
 same-length : tie.Need-same-length
 same-length c = c .before .before .before .before .before .before .before .before .before .before .before .before .before .before .before .before .before .work2 .given ∙ c .before .before .before .before .before .before .before .before .before .before .before .before .before .before .before .before .before .before .before .before .before .before .before .before .work .given

@@ -11,7 +11,7 @@ use Rattle.slopes.proofs.Moves.{padded-bound}
 use Rattle.leans.specs.Leans.{Blank}
 use Rattle.edges.specs.Edges.{Slopes}
 use Rattle.edges.proofs.Kept.{blank-of, slopes-cell}
-use Rattle.edges.proofs.Asks.{limits, load-asked, start-rises, start-falls}
+use Rattle.edges.proofs.Asks.{limits, load-asked, rises-asked, falls-asked}
 use Rattle.edges.proofs.narrow.start.Statement.{statement}
 use Rattle.edges.proofs.narrow.start.Tie as tie
 
@@ -76,9 +76,11 @@ gather-requires : tie.Need-gather-requires Inv-loop μ-loop
 gather-requires c κs =
     let s = c .before .before .before .before .before .before .before .before .before .before in
     let l = c .before .before .before .before .before .before .before .before .loop in
+    let inside = c .before .before .before .before .before .before .before .loop-test .taken in
+    let z = edge-limits s in
     let lower = c .before .before .before .before .before .load .ensures in
     let upper = c .before .before .before .load2 .ensures in
-    start-rises (pictures s) (s .args .i) (s .args .h) (s .args .w) (s .pre .1 .edges) 32768 (2 ^ 30) (small s) (omega arith) (l .t) _ _ _ _ (c .before .before .before .before .before .before .before .loop-test .taken) (lower .size) (upper .size) (l .inv .3)
+    rises-asked (pictures s) (s .args .i) (s .args .h) (s .args .w) (s .pre .1 .edges) 32768 (2 ^ 30) (small s) (omega arith) (l .t) (128 + s .args .i) 0 _ _ (omega (arith, z)) (l .inv .3) _ _ _ _ _ _ (lower .size) (upper .size) (omega (arith, z)) (omega (arith, z, inside)) (omega (arith, z, inside)) (omega (arith, z))
 
 sub-gather-3 : tie.Need-sub-gather-3 Inv-loop μ-loop
 sub-gather-3 c = search needs
@@ -99,9 +101,11 @@ gather-requires-2 : tie.Need-gather-requires-2 Inv-loop μ-loop
 gather-requires-2 c κs =
     let s = c .before .before .before .before .before .before .before .before .before .before .before .before .before .before in
     let l = c .before .before .before .before .before .before .before .before .before .before .before .before .loop in
+    let inside = c .before .before .before .before .before .before .before .before .before .before .before .loop-test .taken in
+    let z = edge-limits s in
     let lower = c .before .before .before .before .before .before .before .before .before .load .ensures in
     let upper = c .before .before .before .before .before .before .before .load2 .ensures in
-    start-falls (pictures s) (s .args .i) (s .args .h) (s .args .w) (s .pre .1 .edges) 32768 (2 ^ 30) (small s) (omega arith) (l .t) _ _ _ _ (c .before .before .before .before .before .before .before .before .before .before .before .loop-test .taken) (lower .size) (upper .size) (l .inv .3)
+    falls-asked (pictures s) (s .args .i) (s .args .h) (s .args .w) (s .pre .1 .edges) 32768 (2 ^ 30) (small s) (omega arith) (l .t) (128 + s .args .i) 0 _ _ (omega (arith, z)) (l .inv .3) _ _ _ _ _ _ (lower .size) (upper .size) (omega (arith, z)) (omega (arith, z, inside)) (omega (arith, z, inside)) (omega (arith, z))
 
 add-t : tie.Need-add-t Inv-loop μ-loop
 add-t c = omega (arith, edge-limits (c .before .before .before .before .before .before .before .before .before .before .before .before .before .before .before), c .before .before .before .before .before .before .before .before .before .before .before .before .loop-test .taken)

@@ -9,7 +9,7 @@ use Rattle.picture.proofs.Planes.{plane-bound, plane-beside}
 use Rattle.slopes.specs.Slopes.{padded}
 use Rattle.slopes.proofs.Moves.{padded-bound}
 use Rattle.edges.proofs.Kept.{blank-of, within-row, slopes-next, work-edged}
-use Rattle.edges.proofs.Asks.{limits, load-asked, flat-asked, row-finish, row-rises, row-falls}
+use Rattle.edges.proofs.Asks.{limits, load-asked, flat-asked, rises-asked, falls-asked, finish-asked}
 use Rattle.edges.proofs.wide.row.Statement.{statement}
 use Rattle.edges.proofs.wide.row.Tie as tie
 
@@ -43,7 +43,8 @@ sub-finish c = omega (arith, row-limits (c .before .before .before .before .befo
 finish-requires : tie.Need-finish-requires
 finish-requires c κs =
     let s = c .before .before .before .before .before .before .before .before .before .before in
-    row-finish (pictures s) (s .args .i) (s .args .h) (s .args .w) (s .pre .edges) (2 ^ 30) (2 ^ 60) (small s) (omega arith) (s .args .m) _ _ (s .pre .turn) (s .pre .slopes) (c .before .before .before .before .before .work .given ∙ s .pre .room-work) (c .before .before .before .before .out .given ∙ s .pre .room)
+    let z = row-limits s in
+    finish-asked (pictures s) (s .args .i) (s .args .h) (s .args .w) (s .pre .edges) (2 ^ 30) (2 ^ 60) (small s) (omega arith) (s .args .h) (128 + s .args .i) (s .args .m) _ _ (omega (arith, z)) (s .pre .slopes) _ _ _ _ (c .before .before .before .before .before .work .given ∙ s .pre .room-work) (c .before .before .before .before .out .given ∙ s .pre .room) (omega (arith, z)) (omega (arith, z)) (omega (arith, z)) (omega (arith, z))
 
 add-load : tie.Need-add-load
 add-load c = omega (arith, row-limits (c .before .before .before .before .before .before .before .before .before .before .before .before .before))
@@ -93,14 +94,15 @@ sub-slide-2 c = omega (arith, row-limits (c .before .before .before .before .bef
 slide-requires : tie.Need-slide-requires
 slide-requires c κs =
     let s = c .before .before .before .before .before .before .before .before .before .before .before .before .before .before .before .before .before .before .before .before .before .before .before in
+    let z = row-limits s in
     let lower = c .before .before .before .before .before .before .before .before .load .ensures in
     let middle = c .before .before .before .before .before .before .load2 .ensures in
     let upper = c .before .before .before .before .load3 .ensures in (
-      row-rises (pictures s) (s .args .i) (s .args .h) (s .args .w) (s .pre .edges) (2 ^ 30) (2 ^ 60) (small s) (omega arith) (s .args .m) _ _ (s .pre .turn) (s .pre .slopes) _ _ _ (lower .size) (middle .size) (upper .size),
-      within-row (padded (planeAt (pictures s))) (2 ^ 30) (small s) _ (129 + s .args .i + s .args .h) (2 ^ 30) (257 + (s .args .w - s .args .h)) _ (omega arith) lower,
-      within-row (padded (planeAt (pictures s))) (2 ^ 30) (small s) _ (129 + s .args .i) (2 ^ 30) (257 + s .args .w) _ (omega arith) middle,
-      within-row (padded (planeAt (pictures s))) (2 ^ 30) (small s) _ (129 + s .args .i) (2 ^ 30) (256 - s .args .w) _ (omega arith) middle,
-      within-row (padded (planeAt (pictures s))) (2 ^ 30) (small s) _ (129 + s .args .i - s .args .h) (2 ^ 30) (256 - (s .args .w - s .args .h)) _ (omega arith) upper,
+      record { gather = rises-asked (pictures s) (s .args .i) (s .args .h) (s .args .w) (s .pre .edges) (2 ^ 30) (2 ^ 60) (small s) (omega arith) (s .args .h) (128 + s .args .i) (s .args .m) _ _ (omega (arith, z)) (s .pre .slopes) _ _ _ _ _ _ (lower .size) (middle .size) (omega (arith, z)) (omega (arith, z)) (omega (arith, z)) (omega (arith, z)); length-c = upper .size; room-b = omega (arith, z); room-c = omega (arith, z) },
+      within-row (padded (planeAt (pictures s))) (2 ^ 30) (small s) _ (129 + s .args .i + s .args .h) (2 ^ 30) _ _ (omega arith) lower,
+      within-row (padded (planeAt (pictures s))) (2 ^ 30) (small s) _ (129 + s .args .i) (2 ^ 30) _ _ (omega arith) middle,
+      within-row (padded (planeAt (pictures s))) (2 ^ 30) (small s) _ (129 + s .args .i) (2 ^ 30) _ _ (omega arith) middle,
+      within-row (padded (planeAt (pictures s))) (2 ^ 30) (small s) _ (129 + s .args .i - s .args .h) (2 ^ 30) _ _ (omega arith) upper,
     )
 
 sub-slide-3 : tie.Need-sub-slide-3
@@ -130,14 +132,15 @@ add-slide-4 c = omega (arith, row-limits (c .before .before .before .before .bef
 slide-requires-2 : tie.Need-slide-requires-2
 slide-requires-2 c κs =
     let s = c .before .before .before .before .before .before .before .before .before .before .before .before .before .before .before .before .before .before .before .before .before .before .before .before .before .before .before .before in
+    let z = row-limits s in
     let lower = c .before .before .before .before .before .before .before .before .before .before .before .before .before .load .ensures in
     let middle = c .before .before .before .before .before .before .before .before .before .before .before .load2 .ensures in
     let upper = c .before .before .before .before .before .before .before .before .before .load3 .ensures in (
-      row-falls (pictures s) (s .args .i) (s .args .h) (s .args .w) (s .pre .edges) (2 ^ 30) (2 ^ 60) (small s) (omega arith) (s .args .m) _ _ (s .pre .turn) (s .pre .slopes) _ _ _ (lower .size) (middle .size) (upper .size),
-      within-row (padded (planeAt (pictures s))) (2 ^ 30) (small s) _ (129 + s .args .i + s .args .h) (2 ^ 30) (255 - s .args .w - (s .args .w - s .args .h)) _ (omega arith) lower,
-      within-row (padded (planeAt (pictures s))) (2 ^ 30) (small s) _ (129 + s .args .i) (2 ^ 30) (255 - 2 * s .args .w) _ (omega arith) middle,
-      within-row (padded (planeAt (pictures s))) (2 ^ 30) (small s) _ (129 + s .args .i) (2 ^ 30) (256) _ (omega arith) middle,
-      within-row (padded (planeAt (pictures s))) (2 ^ 30) (small s) _ (129 + s .args .i - s .args .h) (2 ^ 30) (256 - s .args .w + (s .args .w - s .args .h)) _ (omega arith) upper,
+      record { gather = falls-asked (pictures s) (s .args .i) (s .args .h) (s .args .w) (s .pre .edges) (2 ^ 30) (2 ^ 60) (small s) (omega arith) (s .args .h) (128 + s .args .i) (s .args .m) _ _ (omega (arith, z)) (s .pre .slopes) _ _ _ _ _ _ (lower .size) (middle .size) (omega (arith, z)) (omega (arith, z)) (omega (arith, z)) (omega (arith, z)); length-c = upper .size; room-b = omega (arith, z); room-c = omega (arith, z) },
+      within-row (padded (planeAt (pictures s))) (2 ^ 30) (small s) _ (129 + s .args .i + s .args .h) (2 ^ 30) _ _ (omega arith) lower,
+      within-row (padded (planeAt (pictures s))) (2 ^ 30) (small s) _ (129 + s .args .i) (2 ^ 30) _ _ (omega arith) middle,
+      within-row (padded (planeAt (pictures s))) (2 ^ 30) (small s) _ (129 + s .args .i) (2 ^ 30) _ _ (omega arith) middle,
+      within-row (padded (planeAt (pictures s))) (2 ^ 30) (small s) _ (129 + s .args .i - s .args .h) (2 ^ 30) _ _ (omega arith) upper,
     )
 
 same-length : tie.Need-same-length

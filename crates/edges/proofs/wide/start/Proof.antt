@@ -11,7 +11,7 @@ use Rattle.slopes.proofs.Moves.{padded-bound}
 use Rattle.leans.specs.Leans.{Blank}
 use Rattle.edges.specs.Edges.{Slopes}
 use Rattle.edges.proofs.Kept.{blank-of, within-row, slopes-cell}
-use Rattle.edges.proofs.Asks.{limits, load-asked, start-rises, start-falls}
+use Rattle.edges.proofs.Asks.{limits, load-asked, rises-asked, falls-asked}
 use Rattle.edges.proofs.wide.start.Statement.{statement}
 use Rattle.edges.proofs.wide.start.Tie as tie
 
@@ -76,11 +76,13 @@ gather-requires : tie.Need-gather-requires Inv-loop μ-loop
 gather-requires c κs =
     let s = c .before .before .before .before .before .before .before .before .before .before in
     let l = c .before .before .before .before .before .before .before .before .loop in
+    let inside = c .before .before .before .before .before .before .before .loop-test .taken in
+    let z = edge-limits s in
     let lower = c .before .before .before .before .before .load .ensures in
     let upper = c .before .before .before .load2 .ensures in (
-      start-rises (pictures s) (s .args .i) (s .args .h) (s .args .w) (s .pre .edges) (2 ^ 30) (2 ^ 60) (small s) (omega arith) (l .t) _ _ _ _ (c .before .before .before .before .before .before .before .loop-test .taken) (lower .size) (upper .size) (l .inv .3),
-      within-row (padded (planeAt (pictures s))) (2 ^ 30) (small s) _ (129 + s .args .i + l .t) (2 ^ 30) (256 + s .args .w - l .t) _ (omega arith) lower,
-      within-row (padded (planeAt (pictures s))) (2 ^ 30) (small s) _ (128 + s .args .i - l .t) (2 ^ 30) (256 + l .t - s .args .w) _ (omega arith) upper,
+      rises-asked (pictures s) (s .args .i) (s .args .h) (s .args .w) (s .pre .edges) (2 ^ 30) (2 ^ 60) (small s) (omega arith) (l .t) (128 + s .args .i) 0 _ _ (omega (arith, z)) (l .inv .3) _ _ _ _ _ _ (lower .size) (upper .size) (omega (arith, z)) (omega (arith, z, inside)) (omega (arith, z, inside)) (omega (arith, z)),
+      within-row (padded (planeAt (pictures s))) (2 ^ 30) (small s) _ (129 + s .args .i + l .t) (2 ^ 30) _ _ (omega arith) lower,
+      within-row (padded (planeAt (pictures s))) (2 ^ 30) (small s) _ (128 + s .args .i - l .t) (2 ^ 30) _ _ (omega arith) upper,
     )
 
 sub-gather-3 : tie.Need-sub-gather-3 Inv-loop μ-loop
@@ -102,11 +104,13 @@ gather-requires-2 : tie.Need-gather-requires-2 Inv-loop μ-loop
 gather-requires-2 c κs =
     let s = c .before .before .before .before .before .before .before .before .before .before .before .before .before .before in
     let l = c .before .before .before .before .before .before .before .before .before .before .before .before .loop in
+    let inside = c .before .before .before .before .before .before .before .before .before .before .before .loop-test .taken in
+    let z = edge-limits s in
     let lower = c .before .before .before .before .before .before .before .before .before .load .ensures in
     let upper = c .before .before .before .before .before .before .before .load2 .ensures in (
-      start-falls (pictures s) (s .args .i) (s .args .h) (s .args .w) (s .pre .edges) (2 ^ 30) (2 ^ 60) (small s) (omega arith) (l .t) _ _ _ _ (c .before .before .before .before .before .before .before .before .before .before .before .loop-test .taken) (lower .size) (upper .size) (l .inv .3),
-      within-row (padded (planeAt (pictures s))) (2 ^ 30) (small s) _ (129 + s .args .i + l .t) (2 ^ 30) (256 + l .t - 2 * s .args .w) _ (omega arith) lower,
-      within-row (padded (planeAt (pictures s))) (2 ^ 30) (small s) _ (128 + s .args .i - l .t) (2 ^ 30) (256 - l .t) _ (omega arith) upper,
+      falls-asked (pictures s) (s .args .i) (s .args .h) (s .args .w) (s .pre .edges) (2 ^ 30) (2 ^ 60) (small s) (omega arith) (l .t) (128 + s .args .i) 0 _ _ (omega (arith, z)) (l .inv .3) _ _ _ _ _ _ (lower .size) (upper .size) (omega (arith, z)) (omega (arith, z, inside)) (omega (arith, z, inside)) (omega (arith, z)),
+      within-row (padded (planeAt (pictures s))) (2 ^ 30) (small s) _ (129 + s .args .i + l .t) (2 ^ 30) _ _ (omega arith) lower,
+      within-row (padded (planeAt (pictures s))) (2 ^ 30) (small s) _ (128 + s .args .i - l .t) (2 ^ 30) _ _ (omega arith) upper,
     )
 
 add-t : tie.Need-add-t Inv-loop μ-loop
