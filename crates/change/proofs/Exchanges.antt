@@ -129,13 +129,13 @@ line-off p f g l k e = pick-no (l .counts) _ (λ t. rw e at t)
 
 -- the levels of a line, as they were lent
 module _ (f g : List ℤ) (n : ℕ) (l : Line) (i : Lies f g n l) where
-  abbrev lent-f : List ℤ
+  abbrev pub lent-f : List ℤ
   lent-f = take (l .f + n - l .f) (drop (l .f) f)
 
-  abbrev lent-g : List ℤ
+  abbrev pub lent-g : List ℤ
   lent-g = take (l .g + n - l .g) (drop (l .g) g)
 
-  lent-value : (p k : ℕ) → k < n → planeValue p (at lent-f k) (at lent-g k) ≡ planeValue p (at f (l .f + k)) (at g (l .g + k))
+  pub lent-value : (p k : ℕ) → k < n → planeValue p (at lent-f k) (at lent-g k) ≡ planeValue p (at f (l .f + k)) (at g (l .g + k))
   lent-value p k k< =
       ap₂ (planeValue p) (slice-at (l .f) (l .f + n) f (omega arith) (i .in-f) k (omega arith)) (slice-at (l .g) (l .g + n) g (omega arith) (i .in-g) k (omega arith))
 

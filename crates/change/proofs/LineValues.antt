@@ -33,6 +33,9 @@ module _ (z : Size) (o along : Overlap) (m : ℕ) where
   unfolding lineOf
   line-some a b = rw (lineOf, same-test (leb (o .first) m && ltb m (o .end)) true (λ t. tt) (λ t. and-both (leb (o .first) m) (ltb m (o .end)) (le→leb (o .first) m a) (lt→ltb m (o .end) b)))
 
+pub span : (n : ℕ) (d : ℤ) (o : Overlap) → Overlapping n d o → Span n o
+span n d o v = record { ordered = v .ordered; within = v .within; other-within = v .other-within }
+
 -- a row that counts and the row of g that it meets start within the picture
 pub row-start : (m rows columns : ℕ) → m < rows → rows ≤ 256 → columns ≤ 1024 → m * columns + columns ≤ 262144
 row-start m rows columns h r c =

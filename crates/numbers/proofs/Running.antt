@@ -1,7 +1,7 @@
 -- Running sums that wrap at 64 bits, as a loop keeps them.
 -- Assumes nothing.
 use mathlib.Core.Path.{_≡_, refl, sym, _∙_, ap}
-use Prim.Native.Nat.{ℕ, suc, _+_, _-_, _≤_}
+use Prim.Native.Nat.{ℕ, zero, suc, _+_, _-_, _≤_, _<_}
 use native.Mathlib.Omega.{arith}
 use lib.IntN.{ℤ, pos, _+ℤ_}
 use Rattle.numbers.specs.Sum.{sumTo}
@@ -25,6 +25,13 @@ running-more f n s x e h =
     ∙ ap (λ (v : ℤ). wrap (wrap (sumTo n f) +ℤ v)) h
     ∙ wrap-add-right (wrap (sumTo n f)) (f n)
     ∙ wrap-add (sumTo n f) (f n)
+
+-- the values may be wrapped or not
+pub running-same : (n : ℕ) (f g : ℕ → ℤ) → ((k : ℕ) → k < n → wrap (f k) ≡ wrap (g k)) → wrap (sumTo n f) ≡ wrap (sumTo n g)
+unfolding sumTo
+running-same zero f g h = refl
+running-same (suc n) f g h =
+    sym (wrap-add (sumTo n f) (f n)) ∙ running-more g n (wrap (sumTo n f)) (f n) (running-same n f g (λ k k<. h k (omega arith))) (h n (omega arith))
 
 -- ---- the values from lo up to m
 pub range-none : (f : ℕ → ℤ) (lo : ℕ) → pos 0 ≡ wrap (sumTo (lo - lo) (λ k. f (lo + k)))

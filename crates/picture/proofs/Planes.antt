@@ -11,7 +11,7 @@ use lib.ListN.{getD}
 use lib.IntN.{ℤ, pos, negsuc, natAbs, _+ℤ_, _*ℤ_}
 use Rattle.numbers.specs.Sum.{pick}
 use Rattle.numbers.proofs.Sums.{pick-bound, pick-no}
-use Rattle.numbers.proofs.Tests.{and-left}
+use Rattle.numbers.proofs.Tests.{and-left, and-right}
 use Rattle.numbers.proofs.Magnitudes.{size-mul}
 use lib.Signed.{mag, natAbs-le}
 use Rattle.picture.specs.Size.{inRange, inside, rowAt, columnAt}
@@ -29,6 +29,13 @@ value-bound (suc (suc (suc zero))) x y h k = product-bound x x h h
 value-bound (suc (suc (suc (suc zero)))) x y h k = product-bound y y k k
 value-bound (suc (suc (suc (suc (suc p))))) x y h k = product-bound x y h k
 
+value-level : (p : ℕ) (x y : ℤ) → p ≤ 2 → natAbs x ≤ 32768 → natAbs y ≤ 32768 → natAbs (planeValue p x y) ≤ 32768
+unfolding planeValue
+value-level zero x y l h k = omega arith
+value-level (suc zero) x y l h k = h
+value-level (suc (suc zero)) x y l h k = k
+value-level (suc (suc (suc p))) x y l h k = absurd (omega arith)
+
 module _ (x : Source) (hf : Levels (x .f)) (hg : Levels (x .g)) where
   pub level-bound : (m n : ℕ) → natAbs (levelOf x m n) ≤ 32768
   level-bound m n = natAbs-le (levelOf x m n) (hf .level (m * x .size .columns + n))
@@ -40,6 +47,11 @@ module _ (x : Source) (hf : Levels (x .f)) (hg : Levels (x .g)) where
   unfolding planeAt
   plane-bound m n = omega (arith, pick-bound (counts x m n) (planeValue (x .plane) (levelOf x m n) (otherOf x m n)), value-bound (x .plane) (levelOf x m n) (otherOf x m n) (level-bound m n) (other-bound m n))
 
+  -- planes 0, 1 and 2 have ones and levels
+  pub plane-level : x .plane ≤ 2 → (m n : ℕ) → natAbs (planeAt x m n) ≤ 32768
+  unfolding planeAt
+  plane-level h m n = omega (arith, pick-bound (counts x m n) (planeValue (x .plane) (levelOf x m n) (otherOf x m n)), value-level (x .plane) (levelOf x m n) (otherOf x m n) h (level-bound m n) (other-bound m n))
+
 -- past the last row no cell counts
 pub plane-past : (x : Source) (m n : ℕ) → x .size .rows ≤ m → planeAt x m n ≡ pos 0
 unfolding planeAt counts inRange
@@ -47,3 +59,11 @@ plane-past x m n h =
     let here = ltb m (x .size .rows) && ltb n (x .size .columns) in
     let there = inside (x .size) (pos m +ℤ x .shift .down) (pos n +ℤ x .shift .right) in
     pick-no (counts x m n) _ (λ t. omega (arith, ltb→lt m (x .size .rows) (and-left (ltb m (x .size .rows)) (ltb n (x .size .columns)) (and-left here there t))))
+
+-- nor past the last column
+pub plane-beside : (x : Source) (m n : ℕ) → x .size .columns ≤ n → planeAt x m n ≡ pos 0
+unfolding planeAt counts inRange
+plane-beside x m n h =
+    let here = ltb m (x .size .rows) && ltb n (x .size .columns) in
+    let there = inside (x .size) (pos m +ℤ x .shift .down) (pos n +ℤ x .shift .right) in
+    pick-no (counts x m n) _ (λ t. omega (arith, ltb→lt n (x .size .columns) (and-right (ltb m (x .size .rows)) (ltb n (x .size .columns)) (and-left here there t))))

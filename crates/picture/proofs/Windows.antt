@@ -3,14 +3,14 @@
 use mathlib.Core.Path.{_≡_, refl, sym, _∙_, ap}
 use Prim.Native.Nat.{ℕ, zero, suc, _+_, _-_, _*_, _≤_, _<_, min}
 use native.Mathlib.Omega.{arith}
-use mathlib.Core.Bool.{Bool, true, false, not, _&&_}
+use mathlib.Core.Bool.{Bool, true, false, not, _&&_, true≢false}
 use lib.Dec.{T, ltb, leb, leb→le, le→leb}
 use lib.IntN.{ℤ, pos, negsuc, _+ℤ_, _-ℤ_, natAbs}
 use lib.Signed.{leZ}
 use Rattle.numbers.specs.Sum.{sumTo, pick}
 use Rattle.numbers.proofs.Sums.{sum-cong, sum-zero, sum-swap, sum-bound, pick-bound}
 use Rattle.picture.specs.declared.Window.{Window}
-use Rattle.picture.specs.Window.{window, Shape, Slanted, rectangle, slanted, diamond, hexagon, rectangleLegal, diamondLegal, hexagonLegal, windowLegal, shapeOf, height, reach, width, depth, holds, between}
+use Rattle.picture.specs.Window.{window, Shape, Slanted, rectangle, slanted, diamond, hexagon, rectangleLegal, diamondLegal, hexagonLegal, windowLegal, shapeOf, isRectangle, height, reach, width, depth, holds, between}
 use Rattle.picture.specs.declared.Size.{Size}
 use Rattle.picture.specs.Size.{rowGap, columnGap}
 use Rattle.picture.specs.Direct.{windowSum}
@@ -107,3 +107,25 @@ depth-low (slanted (hexagon k h)) q = omega arith
 
 pub depth-small : (w : Window) → T (windowLegal w) → (q : ℕ) → depth (shapeOf w) q ≤ 127
 depth-small w t q = omega (arith, depth-low (shapeOf w) q, height-small w t)
+
+width-reach : (s : Shape) → width s ≡ reach s 0
+unfolding width reach
+width-reach (rectangle a b) = refl
+width-reach (slanted (diamond r)) = omega arith
+width-reach (slanted (hexagon k h)) = omega arith
+
+pub width-small : (w : Window) → T (windowLegal w) → width (shapeOf w) ≤ 127
+width-small w t = omega (arith, width-reach (shapeOf w), small w t .narrow 0)
+
+-- ---- a window that is no rectangle: it is as wide as it is high or wider, and its depth falls by a row with each of the last columns
+pub height-width : (s : Shape) → isRectangle s ≡ false → height s ≤ width s
+unfolding height width
+height-width (rectangle a b) e = absurd (true≢false e)
+height-width (slanted (diamond r)) e = omega arith
+height-width (slanted (hexagon k h)) e = omega arith
+
+pub depth-slanted : (s : Shape) → isRectangle s ≡ false → (q : ℕ) → depth s q ≡ min (height s) (width s - q)
+unfolding depth height width
+depth-slanted (rectangle a b) e q = absurd (true≢false e)
+depth-slanted (slanted (diamond r)) e q = omega arith
+depth-slanted (slanted (hexagon k h)) e q = refl

@@ -65,8 +65,3 @@ pub output-rectangle : (z : Size) (s : Shape) (b : ℕ) (work out : List ℤ) �
 unfolding width
 output-rectangle z (rectangle a c) b work out e h l o = o ∙ ap (λ (k : ℕ). tabulate (length work) (neighbourSum work k)) h ∙ output-near z a c work l
 output-rectangle z (slanted s) b work out e h l o = absurd (true≢false (sym e))
-
-pub output-slanted : (z : Size) (s : Shape) (work out : List ℤ) → isRectangle s ≡ false → out ≡ work → out ≡ outputRow z s work
-unfolding outputRow
-output-slanted z (rectangle a b) work out e o = absurd (true≢false e)
-output-slanted z (slanted s) work out e o = o

@@ -10,7 +10,6 @@ use Rattle.picture.specs.declared.Size.{Size}
 use Rattle.picture.specs.declared.Window.{Window}
 use Rattle.picture.specs.Window.{windowLegal}
 use Rattle.picture.specs.Picture.{Inputs}
-use Rattle.session.specs.Rows.{Strip}
 use Rattle.steps.specs.Asked.{Checked}
 
 -- a legal window, a work area, and room for a row
@@ -25,8 +24,3 @@ pub record ManyAsked (x : Inputs) (position n : ℕ) (work out : List ℤ) : Typ
   pub rows : position + n ≤ x .source .size .rows
   pub room-work : length work ≡ x .source .size .columns
   pub room : length out ≡ n * x .source .size .columns
-
--- both areas hold what the strip says
-pub record Advanced (r : Strip) (work out : List ℤ) : Type 0 where
-  pub work-is : work ≡ r .work
-  pub output-is : out ≡ r .output

@@ -3,8 +3,8 @@
 ghost use mathlib.Core.Path.{_≡_};
 ghost use Rattle.picture.specs.Window.{shapeOf};
 ghost use Rattle.picture.specs.Picture.{source, inputs, planeAt};
-ghost use Rattle.session.specs.Rows.{strip};
-ghost use Rattle.rows.specs.Asked.{ManyAsked, Advanced};
+ghost use Rattle.session.specs.Rows.{strip, Advanced};
+ghost use Rattle.rows.specs.Asked.{ManyAsked};
 use super::work as areas;
 use picture::Shift;
 use picture::Size;

@@ -1,5 +1,6 @@
 -- "Row session": the work area's recurrence, the output rows, and the call.
 -- Assumes nothing.
+use mathlib.Core.Path.{_≡_}
 use Prim.Native.Nat.{ℕ, zero, suc, _+_, _*_, _-_}
 use mathlib.Core.Bool.{Bool, true, false, _&&_}
 use mathlib.Core.List.{List, [], _∷_, _++_}
@@ -65,6 +66,11 @@ strip z P s position (suc n) work =
     let next = workAfter z P s position work in
     let rest = strip z P s (suc position) n next in
     record { work = rest .work; output = outputRow z s next ++ rest .output }
+
+-- both areas hold what the strip says
+pub record Advanced (r : Strip) (work output : List ℤ) : Type 0 where
+  pub work-is : work ≡ r .work
+  pub output-is : output ≡ r .output
 
 -- what a call of the session leaves: its answer, the position, the work area and the output area
 pub record RowOutcome : Type 0 where

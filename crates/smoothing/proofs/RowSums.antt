@@ -19,9 +19,8 @@ use Rattle.picture.specs.Picture.{Inputs, planeAt}
 use Rattle.picture.specs.Direct.{windowSum, directSum}
 use Rattle.picture.proofs.Planes.{plane-bound}
 use Rattle.picture.proofs.Refusals.{InLimits, in-limits}
-use Rattle.session.specs.Rows.{strip}
+use Rattle.session.specs.Rows.{strip, Advanced}
 use Rattle.steps.specs.Asked.{Checked}
-use Rattle.rows.specs.Asked.{Advanced}
 use Rattle.session.proofs.Steps.{Ready, strip-done}
 use Rattle.statistics.specs.SixSums.{onPlane}
 use Rattle.smoothing.specs.Inner.{ready, rowsIn, Block, Held, RowSums}

@@ -1,3 +1,4 @@
 pub mod RowCells
 pub mod Columns
 pub mod EdgeRows
+pub mod Flats

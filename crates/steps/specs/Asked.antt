@@ -21,6 +21,11 @@ pub record RowAsked (z : Size) (f g : List ℤ) (i d : ℕ) (out : List ℤ) : T
   pub distance : d ≤ 127
   pub room : length out ≡ z .columns
 
+-- such pictures, a row and a distance from it, a work area, and room for a row
+pub record FlatAsked (z : Size) (f g : List ℤ) (i h : ℕ) (work line : List ℤ) : Type 0 where
+  pub row : RowAsked z f g i h work
+  pub room : length line ≡ z .columns
+
 -- pictures of levels, and a work area
 pub record FirstColumnsAsked (z : Size) (f g work : List ℤ) : Type 0 where
   pub size : T (sizeLegal z)

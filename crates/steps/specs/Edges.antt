@@ -1,21 +1,16 @@
 -- A slanted window's change from row to row, by the distance of the columns: how the code goes over "each q from -(k+h) to k+h".
 -- Assumes nothing.
-use Prim.Native.Nat.{ℕ, zero, suc, _+_, _-_}
+use Prim.Native.Nat.{ℕ}
 use mathlib.Core.List.{List}
-use lib.Dec.{leb, ltb}
 use lib.ListN.{getD}
 use lib.IntN.{ℤ, pos, _+ℤ_}
-use Rattle.numbers.specs.Sum.{sumTo, pick}
+use Rattle.numbers.specs.Sum.{sumTo}
 use Rattle.numbers.specs.Grid.{tabulate}
 use Rattle.numbers.specs.Wrap.{wrap}
 use Rattle.picture.specs.declared.Size.{Size}
 use Rattle.picture.specs.Window.{Shape, depth}
 use Rattle.session.specs.Rows.{enterLeave}
-
--- the values of F at the columns at distance c from column j, as far as there are any
-unfoldable pub atDistance : (columns : ℕ) → (ℕ → ℤ) → (c j : ℕ) → ℤ
-atDistance columns F zero j = F j
-atDistance columns F (suc c) j = pick (leb (suc c) j) (F (j - suc c)) +ℤ pick (ltb (j + suc c) columns) (F (j + suc c))
+use Rattle.session.specs.Distances.{atDistance}
 
 -- what column j adds from row i to i+1 at the columns at distance c
 abbrev pub edgeChange : Size → (ℕ → ℕ → ℤ) → Shape → (i c j : ℕ) → ℤ

@@ -3,7 +3,6 @@ use borrow.Author.Needs.{needs}
 use mathlib.Core.Path.{_≡_, sym, _∙_}
 use Prim.Native.Nat.{ℕ, _-_, _≤_}
 use native.Mathlib.Omega.{arith}
-use lib.IntN.{ℤ}
 use lib.ListN.{length}
 use mir.Facts.{toZ-ofZ}
 use mir.Syntax.{w32}
@@ -13,8 +12,8 @@ use Rattle.planes.specs.declared.Overlap.{Overlap}
 use Rattle.picture.specs.Picture.{Source, source}
 use Rattle.planes.specs.Overlaps.{Overlapping}
 use Rattle.picture.proofs.Refusals.{in-limits}
-use Rattle.change.specs.Lines.{lineOf, Span, Lies}
-use Rattle.change.proofs.LineValues.{line-lies}
+use Rattle.change.specs.Lines.{lineOf, Lies}
+use Rattle.change.proofs.LineValues.{span, line-lies}
 use Rattle.change.proofs.Exchanges.{slice-numbers, exchange-done}
 use Rattle.change.proofs.exchange.Statement.{statement}
 use Rattle.change.proofs.exchange.Tie as tie
@@ -46,9 +45,6 @@ module _ (c : tie.After-overlap-of2) where
 
   few : along .end ≤ 1024
   few = omega (arith, right-overlaps .within, in-limits (start .args .size) (start .pre .size) .few-columns)
-
-span : (n : ℕ) (d : ℤ) (o : Overlap) → Overlapping n d o → Span n o
-span n d o v = record { ordered = v .ordered; within = v .within; other-within = v .other-within }
 
 overlap-of-requires : tie.Need-overlap-of-requires
 overlap-of-requires c κs = search needs

@@ -10,7 +10,7 @@ use Rattle.picture.specs.Window.{shapeOf}
 use Rattle.picture.specs.Picture.{source, planeAt}
 use Rattle.picture.proofs.Refusals.{in-limits}
 use Rattle.session.specs.Rows.{outputRow}
-use Rattle.rows.proofs.Strips.{Partly, partly-none, partly-more, partly-all, row-room}
+use Rattle.session.proofs.Strips.{Partly, partly-none, partly-more, partly-all, row-room}
 use Rattle.rows.proofs.advance.many.Statement.{statement}
 use Rattle.rows.proofs.advance.many.Tie as tie
 

@@ -2,7 +2,8 @@
 use borrow.Author.Needs.{needs}
 use mathlib.Core.Path.{_≡_, sym, _∙_}
 use Rattle.picture.specs.Window.{shapeOf}
-use Rattle.rows.proofs.Areas.{output-rectangle, output-slanted}
+use Rattle.session.proofs.Strips.{output-slanted}
+use Rattle.rows.proofs.Areas.{output-rectangle}
 use Rattle.rows.proofs.work.output.Statement.{statement}
 use Rattle.rows.proofs.work.output.Tie as tie
 

@@ -5,16 +5,22 @@ use Prim.Native.Nat.{ℕ, zero, suc, _+_, _-_, _*_, _≤_, _<_}
 use native.Mathlib.Omega.{arith}
 use native.Mathlib.Nat.{mul-le-mul-right}
 use native.Mathlib.Numerals.{add-one}
+use mathlib.Core.Bool.{false, true≢false}
 use mathlib.Core.List.{List, [], _∷_, _++_, append-assoc}
 use lib.ListN.{length, take, drop, length-append}
 use lib.Seq.{take-all, take-at, length-take-le}
 use lib.IntN.{ℤ}
 use borrow.Rule.Slice.PartMut.{putMid, postOf}
 use Rattle.picture.specs.declared.Size.{Size}
-use Rattle.picture.specs.Window.{Shape}
-use Rattle.session.specs.Rows.{Strip, strip, workAfter, outputRow}
-use Rattle.rows.specs.Asked.{Advanced}
+use Rattle.picture.specs.Window.{Shape, rectangle, slanted, isRectangle}
+use Rattle.session.specs.Rows.{Strip, strip, Advanced, workAfter, outputRow}
 use Rattle.session.proofs.Calls.{strip-more}
+
+-- the output row of a window that is no rectangle is the work area
+pub output-slanted : (z : Size) (s : Shape) (work out : List ℤ) → isRectangle s ≡ false → out ≡ work → out ≡ outputRow z s work
+unfolding outputRow
+output-slanted z (rectangle a b) work out e o = absurd (true≢false e)
+output-slanted z (slanted s) work out e o = o
 
 -- a part put behind what is done is done too
 put-behind : (start n : ℕ) (out part : List ℤ) → start ≤ length out → length part ≡ n → take (start + n) (putMid start n out part) ≡ take start out ++ part
