@@ -41,7 +41,7 @@ fn area(
         return;
     }
     if position == 0 {
-        slanted::first(size, f, g, window, shift, plane, work);
+        slanted::first(size, f, g, window, shift, plane, work, row);
         return;
     }
     let i = position - 1;

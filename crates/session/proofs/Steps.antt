@@ -66,7 +66,7 @@ module _ (z : Size) (P : ℕ → ℕ → ℤ) where
           lim .few-rows,
         )
 
-    window-fits : (s : Shape) (i j : ℕ) → natAbs (windowSum z s P i j) ≤ 2 ^ 48
+    pub window-fits : (s : Shape) (i j : ℕ) → natAbs (windowSum z s P i j) ≤ 2 ^ 48
     window-fits s i j =
         omega (arith, window-bound z s P (2 ^ 30) i j small, mul-le-mul (lim .few-rows) (lim .few-columns))
 

@@ -1,4 +1,4 @@
 pub mod RowCells
 pub mod Columns
 pub mod EdgeRows
-pub mod Flats
+pub mod AcrossRows

@@ -44,10 +44,11 @@ pub record Checked (x : Inputs) : Type 0 where
   pub levels-g : Levels (x .source .g)
   pub window : T (windowLegal (x .window))
 
--- such inputs, and a work area
-pub record FirstAsked (x : Inputs) (work : List ℤ) : Type 0 where
+-- such inputs, a work area, and room for a row
+pub record FirstAsked (x : Inputs) (work line : List ℤ) : Type 0 where
   pub inputs : Checked x
   pub room-work : length work ≡ x .source .size .columns
+  pub room : length line ≡ x .source .size .columns
 
 -- such inputs, a row of the picture, a work area, and room for a row
 pub record StepAsked (x : Inputs) (i : ℕ) (work line : List ℤ) : Type 0 where

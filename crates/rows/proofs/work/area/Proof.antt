@@ -68,10 +68,13 @@ first-requires-2 c κs = search needs
 same-length-3 : tie.Need-same-length-3
 same-length-3 c = search needs
 
+same-length-4 : tie.Need-same-length-4
+same-length-4 c = search needs
+
 returns-3 : tie.Need-returns-3
 returns-3 c =
-    let s = c .before .before .before .before .before .before in
-    area-slanted-first (asked s) (s .args .work .now) _ (s .args .position) (sym (c .before .before .before .before .before .is-rectangle .ensures) ∙ c .before .before .before .before .if1 .left) (c .before .before .before .if3 .taken) (c .before .first2 .ensures)
+    let s = c .before .before .before .before .before .before .before .before in
+    area-slanted-first (asked s) (s .args .work .now) _ (s .args .position) (sym (c .before .before .before .before .before .before .before .is-rectangle .ensures) ∙ c .before .before .before .before .before .before .if1 .left) (c .before .before .before .before .before .if3 .taken) (c .before .before .first2 .ensures)
 
 sub-i-2 : tie.Need-sub-i-2
 sub-i-2 c = search needs
@@ -79,11 +82,11 @@ sub-i-2 c = search needs
 next-requires : tie.Need-next-requires
 next-requires c κs = search needs
 
-same-length-4 : tie.Need-same-length-4
-same-length-4 c = search needs
-
 same-length-5 : tie.Need-same-length-5
 same-length-5 c = search needs
+
+same-length-6 : tie.Need-same-length-6
+same-length-6 c = search needs
 
 returns-4 : tie.Need-returns-4
 returns-4 c =
@@ -106,9 +109,10 @@ area-spec =
     returns-2
     first-requires-2
     same-length-3
+    same-length-4
     returns-3
     sub-i-2
     next-requires
-    same-length-4
     same-length-5
+    same-length-6
     returns-4)

@@ -1,34 +1,31 @@
 -- `steps::flat::flat` meets its contract. Assumes nothing.
 use borrow.Author.Needs.{needs}
 use mathlib.Core.Path.{_≡_, sym, _∙_, ap}
-use Prim.Native.Nat.{ℕ, _≤_}
+use Prim.Native.Nat.{ℕ, _≤_, _<_}
 use native.Mathlib.Omega.{arith}
 use mathlib.Core.List.{List, _++_}
 use lib.IntN.{ℤ, pos}
-use lib.ListN.{length, take, drop, replicate, length-append}
-use lib.Seq.{length-take-le, take-append-seam}
+use lib.ListN.{length, take, drop, replicate}
+use lib.Seq.{length-take-le}
+use Rattle.numbers.specs.Wrap.{wrap}
 use Rattle.numbers.proofs.Grids.{length-tabulate}
 use Rattle.picture.specs.Picture.{source, planeAt}
 use Rattle.picture.proofs.Refusals.{in-limits}
-use Rattle.steps.proofs.Flats.{flat-alone, flat-across}
+use Rattle.numbers.proofs.Running.{wrap-wrap}
+use Rattle.numbers.proofs.Writes.{at, tabulate-at}
+use Rattle.session.specs.Rows.{enterLeave}
+use Rattle.steps.proofs.AcrossRows.{front, front-fits, front-length, added-alone, added-across}
 use Rattle.steps.proofs.flat.flat.Statement.{statement}
 use Rattle.steps.proofs.flat.flat.Tie as tie
 
 abbrev plane : tie.Start → ℕ → ℕ → ℤ
 plane s = planeAt (source (s .args .size) (s .args .f .now) (s .args .g .now) (s .args .shift) (s .args .plane))
 
+abbrev gains : tie.Start → ℕ → ℤ
+gains s = enterLeave (s .args .size) (plane s) (s .args .i) (s .args .h)
+
 few : (s : tie.Start) → s .args .size .columns ≤ 1024
 few s = in-limits (s .args .size) (s .pre .row .size) .few-columns
-
--- the front part of an array, as it has come back
-front : (n : ℕ) (part rest : List ℤ) → length part ≡ n → take n (part ++ rest) ≡ part
-front n part rest e = ap (λ (m : ℕ). take m (part ++ rest)) (sym e) ∙ take-append-seam part rest
-
-front-fits : (n : ℕ) (part rest : List ℤ) → length part ≡ n → n ≤ length (part ++ rest)
-front-fits n part rest e = omega (arith, length-append part rest)
-
-front-length : (n : ℕ) (part rest : List ℤ) → length part ≡ n → n ≡ length (take n (part ++ rest))
-front-length n part rest e = sym (ap length (front n part rest e) ∙ e)
 
 -- what enters and leaves, in the front part of the array
 module _ (c : tie.After-gain) where
@@ -44,8 +41,16 @@ module _ (c : tie.After-gain) where
   changes : length change ≡ columns
   changes = ap length (c .gain .ensures) ∙ length-tabulate _ _
 
-  lent : columns ≡ length (take columns (change ++ rest))
+  abbrev given : List ℤ
+  given = take columns (change ++ rest)
+
+  lent : columns ≡ length given
   lent = front-length columns change rest changes
+
+  gained : (m : ℕ) → m < columns → wrap (at given m) ≡ wrap (gains (c .before .before .before) m)
+  gained m m< =
+      ap (λ (l : List ℤ). wrap (at l m)) (front columns change rest changes)
+      ∙ ap wrap (tabulate-at change _ _ (c .gain .ensures) m (omega (arith, changes))) ∙ wrap-wrap (gains (c .before .before .before) m)
 
 add-gain-requires : tie.Need-add-gain-requires
 add-gain-requires c κs = search needs
@@ -56,7 +61,7 @@ same-length c = search needs
 returns : tie.Need-returns
 returns c =
     let s = c .before .before .before .before in
-    flat-alone (s .args .size) (plane s) (s .args .i) (s .args .h) (s .args .k) (s .args .work .now) _ (c .before .before .before .if1 .taken) (c .before .add-gain .ensures)
+    added-alone (s .args .size .columns) (s .args .k) (gains s) (s .args .work .now) _ (c .before .before .before .if1 .taken) (c .before .add-gain .ensures)
 
 array-borrow-prefix-change : tie.Need-array-borrow-prefix-change
 array-borrow-prefix-change c = few (c .before)
@@ -93,8 +98,7 @@ returns-2 : tie.Need-returns-2
 returns-2 c =
     let s = c .before .before .before .before .before .before .before .before .before .before .before .before in
     let g = c .before .before .before .before .before .before .before .before .before in
-    flat-across (s .args .size) (plane s) (s .args .i) (s .args .h) (s .args .k) (s .args .work .now) _ _ _
-    (front (columns g) (change g) (rest g) (changes g) ∙ g .gain .ensures) (c .before .before .before .before .before .across .ensures) (s .pre .row .room) (c .before .add .ensures)
+    added-across (s .args .size .columns) (s .args .k) (gains s) (s .args .work .now) _ (given g) _ (sym (lent g)) (gained g) (c .before .before .before .before .before .across .ensures) (s .pre .row .room) (c .before .add .ensures)
 
 pub flat-spec : {M : Type 1} → statement M
 flat-spec =

@@ -1,69 +1,88 @@
 -- `steps::slanted::first` meets its contract. Assumes nothing.
 use borrow.Author.Needs.{needs}
-use mathlib.Core.Path.{_≡_, _∙_, ap}
-use Prim.Native.Nat.{ℕ, _-_}
+use mathlib.Core.Path.{_≡_, sym, ap, _∙_}
+use Prim.Native.Nat.{ℕ, suc, _+_, _-_, _≤_, min}
 use native.Mathlib.Omega.{arith}
+use lib.IntN.{ℤ}
 use lib.ListN.{length}
-use mir.Facts.{toZ-ofZ}
-use mir.Syntax.{w64}
-use mir.Val.{SFits}
-use Rattle.numbers.specs.Grid.{tabulate}
-use Rattle.numbers.proofs.Writes.{Upto, upto-none, upto-more, upto-all}
-use Rattle.picture.specs.Picture.{Inputs, inputs}
+use Rattle.numbers.proofs.Grids.{length-tabulate}
+use Rattle.picture.specs.Window.{shapeOf, height}
+use Rattle.picture.specs.Picture.{Source, source, planeAt}
 use Rattle.picture.specs.Direct.{directSum}
 use Rattle.picture.proofs.Refusals.{in-limits}
+use Rattle.picture.proofs.Planes.{plane-bound}
+use Rattle.steps.proofs.Columns.{columnsTo, columns-none, columns-plus, reached, windows-all}
 use Rattle.steps.proofs.slanted.first.Statement.{statement}
 use Rattle.steps.proofs.slanted.first.Tie as tie
 
 abbrev Inv-loop : tie.InvT-loop
-Inv-loop size f g window shift plane work₀ j₀ work j = Upto (directSum (inputs size f g window shift plane) 0) work₀ work j
+Inv-loop size f g window shift plane work₀ row₀ end m₀ work row m =
+    (m ≤ end) × (length row ≡ size .columns) × (work ≡ columnsTo (reached size (planeAt (source size f g shift plane)) (shapeOf window)) (size .columns) m)
 
 abbrev μ-loop : tie.MeasureT-loop
-μ-loop size f g window shift plane work₀ j₀ work j = length work₀ - j
+μ-loop size f g window shift plane work₀ row₀ end m₀ work row m = end - m
 
-abbrev asked : tie.Start Inv-loop μ-loop → Inputs
-asked s = inputs (s .args .size) (s .args .f .now) (s .args .g .now) (s .args .window) (s .args .shift) (s .args .plane)
+abbrev pictures : tie.Start Inv-loop μ-loop → Source
+pictures s = source (s .args .size) (s .args .f .now) (s .args .g .now) (s .args .shift) (s .args .plane)
+
+abbrev rows : tie.Start Inv-loop μ-loop → ℕ → ℕ → ℤ
+rows s = reached (s .args .size) (planeAt (pictures s)) (shapeOf (s .args .window))
+
+height-requires : tie.Need-height-requires Inv-loop μ-loop
+height-requires c κs = search needs
+
+high-requires : tie.Need-high-requires Inv-loop μ-loop
+high-requires c κs = omega (arith, in-limits (c .before .args .size) (c .before .pre .inputs .size) .some-rows)
+
+fill-requires : tie.Need-fill-requires Inv-loop μ-loop
+fill-requires c κs = search needs
 
 loop-holds : tie.Need-loop-holds Inv-loop μ-loop
-loop-holds c = upto-none _ _
+loop-holds c =
+    let s = c .before .before .before .before .before in
+    (omega arith, s .pre .room, columns-none (rows s) (s .args .size .columns) _ _ (s .pre .room-work) (c .before .fill .ensures))
 
-sum-requires : tie.Need-sum-requires Inv-loop μ-loop
-sum-requires c κs =
-    let s = c .before .before in
-    let x = s .pre .inputs in
+reaching-requires : tie.Need-reaching-requires Inv-loop μ-loop
+reaching-requires c κs =
+    let s = c .before .before .before .before .before .before .before .before .before in
+    let l = c .before .before .before .loop in
     record {
-      size = x .size;
-      length-f = x .length-f;
-      length-g = x .length-g;
-      levels-f = x .levels-f;
-      levels-g = x .levels-g;
-      window = x .window;
-      row-inside = omega (arith, in-limits (s .args .size) (x .size) .some-rows);
-      column-inside = omega (arith, s .pre .room-work, c .before .loop .inv .size, c .loop-test .taken);
+      inputs = s .pre .inputs;
+      row = omega (arith, c .before .before .loop-test .taken, c .before .before .before .before .before .before .before .high .ensures);
+      room-work = ap length (l .inv .2) ∙ length-tabulate _ _;
+      room = l .inv .1;
     }
 
-mul-t10 : tie.Need-mul-t10 Inv-loop μ-loop
-mul-t10 c = search needs
-
-slice-set-from-work : tie.Need-slice-set-from-work Inv-loop μ-loop
-slice-set-from-work c = search needs
-
-add-j : tie.Need-add-j Inv-loop μ-loop
-add-j c = search needs
+add-m : tie.Need-add-m Inv-loop μ-loop
+add-m c = search needs
 
 loop-less : tie.Need-loop-less Inv-loop μ-loop
 loop-less c = search needs
 
 loop-again : tie.Need-loop-again Inv-loop μ-loop
 loop-again c =
-    let r : SFits w64 (c .sum .result) = record { sfits = c .sum .ok } in
-    upto-more (c .before .before .loop .inv) _ (omega arith) (toZ-ofZ r ∙ c .sum .ensures)
+    let s = c .before .before .before .before .before .before .before .before .before .before .before .before in
+    let l = c .before .before .before .before .before .before .loop in
+    let call = c .before .before .reaching in (
+      omega (arith, c .before .before .before .before .before .loop-test .taken),
+      call .kept .1 .1 .1 .1 .1 .1 .1 .1 .0 ∙ l .inv .1,
+      columns-plus (rows s) (s .args .size .columns) (l .m) _ _ (l .inv .2) (call .ensures),
+    )
 
 same-length : tie.Need-same-length Inv-loop μ-loop
-same-length c = search needs
+same-length c = ap length (c .before .loop .inv .2) ∙ length-tabulate _ _ ∙ sym (c .before .before .before .before .before .before .before .pre .room-work)
+
+same-length-2 : tie.Need-same-length-2 Inv-loop μ-loop
+same-length-2 c = c .before .loop .inv .1 ∙ sym (c .before .before .before .before .before .before .before .pre .room)
 
 returns : tie.Need-returns Inv-loop μ-loop
-returns c = upto-all (c .before .loop .inv) (omega arith) ∙ ap (λ (n : ℕ). tabulate n (directSum (asked (c .before .before)) 0)) (c .before .before .pre .room-work)
+unfolding directSum
+returns c =
+    let s = c .before .before .before .before .before .before .before in
+    let l = c .before .loop in
+    let x = s .pre .inputs in
+    let end : l .m ≡ min (suc (0 + height (shapeOf (s .args .window)))) (s .args .size .rows) = omega (arith, l .inv .0, c .loop-test .left) ∙ c .before .before .before .before .before .high .ensures ∙ ap (λ (a : ℕ). min (suc (0 + a)) (s .args .size .rows)) (c .before .before .before .before .before .before .height .ensures) in
+    windows-all (s .args .size) (planeAt (pictures s)) (in-limits (s .args .size) (x .size)) (plane-bound (pictures s) (x .levels-f) (x .levels-g)) (shapeOf (s .args .window)) (l .m) _ end (l .inv .2)
 
 pub first-spec : {M : Type 1} → statement M
 first-spec =
@@ -71,12 +90,14 @@ first-spec =
     (tie.spec
     Inv-loop
     μ-loop
+    height-requires
+    high-requires
+    fill-requires
     loop-holds
-    sum-requires
-    mul-t10
-    slice-set-from-work
-    add-j
+    reaching-requires
+    add-m
     loop-less
     loop-again
     same-length
+    same-length-2
     returns)
