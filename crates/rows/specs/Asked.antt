@@ -2,13 +2,14 @@
 -- Assumes nothing.
 use mathlib.Core.Path.{_≡_}
 use Prim.Native.Nat.{ℕ, _+_, _*_, _≤_}
+use mathlib.Core.Bool.{Bool, false}
 use mathlib.Core.List.{List}
 use lib.Dec.{T}
 use lib.ListN.{length}
 use lib.IntN.{ℤ}
 use Rattle.picture.specs.declared.Size.{Size}
 use Rattle.picture.specs.declared.Window.{Window}
-use Rattle.picture.specs.Window.{windowLegal}
+use Rattle.picture.specs.Window.{windowLegal, shapeOf, isRectangle}
 use Rattle.picture.specs.Picture.{Inputs}
 use Rattle.steps.specs.Asked.{Checked}
 
@@ -24,3 +25,14 @@ pub record ManyAsked (x : Inputs) (position n : ℕ) (work out : List ℤ) : Typ
   pub rows : position + n ≤ x .source .size .rows
   pub room-work : length work ≡ x .source .size .columns
   pub room : length out ≡ n * x .source .size .columns
+
+-- the same over a window that is no rectangle, and one row at least
+pub record SlantedAsked (x : Inputs) (position n : ℕ) (work out : List ℤ) : Type 0 where
+  pub many : ManyAsked x position n work out
+  pub slanted : isRectangle (shapeOf (x .window)) ≡ false
+  pub some : 1 ≤ n
+
+-- where the slopes are taken, the window is no rectangle, and a row is asked for
+pub record Pays (w : Window) (n : ℕ) (answer : Bool) : Type 0 where
+  pub slanted : T answer → isRectangle (shapeOf w) ≡ false
+  pub some : T answer → 1 ≤ n

@@ -1,17 +1,19 @@
 // Many rows: the work area moves on row by row, and each row's sums go to the output area.
 // For callers that have checked their inputs.
 ghost use mathlib.Core.Path.{_≡_};
-ghost use Rattle.picture.specs.Window.{shapeOf};
+ghost use lib.Dec.{T};
+ghost use Rattle.picture.specs.Window.{windowLegal, shapeOf};
 ghost use Rattle.picture.specs.Picture.{source, inputs, planeAt};
 ghost use Rattle.session.specs.Rows.{strip, Advanced};
-ghost use Rattle.rows.specs.Asked.{ManyAsked};
+ghost use Rattle.rows.specs.Asked.{ManyAsked, SlantedAsked, Pays};
 use super::work as areas;
 use picture::Shift;
 use picture::Size;
 use picture::Window;
+use picture::shape;
 
-// n rows from a position on.
-pub fn many(
+// n rows from a position on, one after the other.
+fn one_by_one(
     position: usize,
     size: Size,
     f: &[i16],
@@ -45,4 +47,86 @@ pub fn many(
         start = end;
         k += 1;
     }
+}
+
+// The same over a window that is no rectangle, by the slopes of its edges; a row at position 0 comes by itself.
+fn by_edges(
+    position: usize,
+    size: Size,
+    f: &[i16],
+    g: &[i16],
+    window: Window,
+    shift: Shift,
+    plane: u32,
+    n: usize,
+    work: &mut [i64],
+    out: &mut [i64],
+)
+    requires { ⌜ SlantedAsked (inputs size (now f) (now g) window shift plane) position n (now work) (now out) ⌝ }
+    ensures { λ _. ⌜ Advanced (strip size (planeAt (source size (now (f .entry)) (now (g .entry)) shift plane)) (shapeOf window) position n (now (work .entry))) (now (work .exit)) (now (out .exit)) ⌝ }
+{
+    if position == 0 {
+        let zero = 0;
+        let columns = size.columns;
+        let end = out.len();
+        areas::next(
+            0,
+            size,
+            f,
+            g,
+            window,
+            shift,
+            plane,
+            work,
+            &mut out[zero..columns],
+        );
+        edges::many(
+            size,
+            f,
+            g,
+            window,
+            shift,
+            plane,
+            0,
+            n - 1,
+            work,
+            &mut out[columns..end],
+        );
+        return;
+    }
+    edges::many(size, f, g, window, shift, plane, position - 1, n, work, out);
+}
+
+// Whether the slopes are the faster way. They have to be started once a call, which pays from the second row on.
+fn edges_pay(window: Window, n: usize) -> bool
+    requires { ⌜ T (windowLegal window) ⌝ }
+    ensures { λ r. ⌜ Pays window n r ⌝ }
+{
+    if shape::is_rectangle(window) {
+        return false;
+    }
+    n >= 2
+}
+
+// n rows from a position on.
+pub fn many(
+    position: usize,
+    size: Size,
+    f: &[i16],
+    g: &[i16],
+    window: Window,
+    shift: Shift,
+    plane: u32,
+    n: usize,
+    work: &mut [i64],
+    out: &mut [i64],
+)
+    requires { ⌜ ManyAsked (inputs size (now f) (now g) window shift plane) position n (now work) (now out) ⌝ }
+    ensures { λ _. ⌜ Advanced (strip size (planeAt (source size (now (f .entry)) (now (g .entry)) shift plane)) (shapeOf window) position n (now (work .entry))) (now (work .exit)) (now (out .exit)) ⌝ }
+{
+    if edges_pay(window, n) {
+        by_edges(position, size, f, g, window, shift, plane, n, work, out);
+        return;
+    }
+    one_by_one(position, size, f, g, window, shift, plane, n, work, out);
 }

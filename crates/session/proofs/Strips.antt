@@ -11,6 +11,7 @@ use lib.ListN.{length, take, drop, length-append}
 use lib.Seq.{take-all, take-at, length-take-le}
 use lib.IntN.{ℤ}
 use borrow.Rule.Slice.PartMut.{putMid, postOf}
+use Rattle.numbers.proofs.Writes.{part-length}
 use Rattle.picture.specs.declared.Size.{Size}
 use Rattle.picture.specs.Window.{Shape, rectangle, slanted, isRectangle}
 use Rattle.session.specs.Rows.{Strip, strip, Advanced, workAfter, outputRow}
@@ -65,6 +66,32 @@ module _ (z : Size) (P : ℕ → ℕ → ℤ) (s : Shape) (position : ℕ) (star
         work-is = u .work-is ∙ ap (λ (m : ℕ). strip z P s position m start .work) e;
         output-is = sym (take-all (n * z .columns) out (omega arith)) ∙ ap (λ (m : ℕ). take (m * z .columns) out) (sym e) ∙ u .output-is ∙ ap (λ (m : ℕ). strip z P s position m start .output) e;
       }
+
+-- a row put in front, and the others behind it
+pub two-parts : (columns end : ℕ) (out row rest : List ℤ) → columns ≤ end → length out ≡ end → length row ≡ columns → length rest ≡ end - columns →
+    putMid columns (end - columns) (putMid 0 (columns - 0) out row) rest ≡ row ++ rest
+two-parts columns end out row rest h e er es =
+    let front = putMid 0 (columns - 0) out row in
+    let span : columns + (end - columns) ≡ end = omega arith in
+    let none : columns - 0 ≡ columns = omega arith in
+    let from : columns ≡ 0 + columns = omega arith in
+    let front-length : length front ≡ end = part-length 0 columns out row (omega arith) (omega arith) (er ∙ sym none) ∙ e in
+    let whole-length : length (putMid columns (end - columns) front rest) ≡ end = part-length columns end front rest h (omega arith) es ∙ front-length in
+    sym (take-all end (putMid columns (end - columns) front rest) (omega arith))
+    ∙ ap (λ (m : ℕ). take m (putMid columns (end - columns) front rest)) (sym span)
+    ∙ put-behind columns (end - columns) front rest (omega arith) es
+    ∙ ap (λ (l : List ℤ). l ++ rest) (ap (λ (m : ℕ). take columns (putMid 0 m out row)) none ∙ ap (λ (m : ℕ). take m (putMid 0 columns out row)) from ∙ put-behind 0 columns out row (omega arith) er)
+
+-- the first row of a call, and those behind it
+pub first-and-rest : (z : Size) (P : ℕ → ℕ → ℤ) (s : Shape) (position m n : ℕ) (start next row work rest : List ℤ) → n ≡ suc m →
+    next ≡ workAfter z P s position start → row ≡ outputRow z s next → Advanced (strip z P s (suc position) m next) work rest → Advanced (strip z P s position n start) work (row ++ rest)
+unfolding strip
+first-and-rest z P s position m n start next row work rest e en er a =
+    let w = workAfter z P s position start in
+    rw e (record {
+      work-is = a .work-is ∙ ap (λ (l : List ℤ). strip z P s (suc position) m l .work) en;
+      output-is = ap₂ _++_ (er ∙ ap (outputRow z s) en) (a .output-is ∙ ap (λ (l : List ℤ). strip z P s (suc position) m l .output) en);
+    })
 
 -- the place of row k is within the area
 pub row-room : (k n columns : ℕ) → k < n → k * columns + columns ≤ n * columns
