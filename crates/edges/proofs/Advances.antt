@@ -1,21 +1,20 @@
 -- Row after row: the edges' change is the session's, and the rows that a loop has made.
 -- Assumes nothing.
-use mathlib.Core.Path.{_≡_, refl, sym, _∙_, ap, ap₂}
-use Prim.Native.Nat.{ℕ, suc, _+_, _-_, _*_, _≤_, _<_}
+use mathlib.Core.Path.{_≡_, sym, _∙_, ap, ap₂}
+use Prim.Native.Nat.{ℕ, suc, _+_, _-_, _*_, _≤_}
 use native.Mathlib.Omega.{arith}
 use mathlib.Core.Bool.{false}
 use mathlib.Core.List.{List}
 use lib.ListN.{length}
-use lib.IntN.{ℤ, pos, _+ℤ_}
+use lib.IntN.{ℤ, _+ℤ_}
 use borrow.Rule.Slice.PartMut.{putMid}
-use Rattle.numbers.specs.Grid.{tabulate}
 use Rattle.numbers.specs.Wrap.{wrap}
 use Rattle.numbers.proofs.Grids.{tabulate-cong, length-tabulate}
 use Rattle.numbers.proofs.Writes.{at}
 use Rattle.picture.specs.Window.{Shape, isRectangle, height, width}
 use Rattle.picture.specs.Picture.{Source, planeAt}
 use Rattle.picture.proofs.Planes.{plane-past, plane-beside}
-use Rattle.session.specs.Rows.{strip, Advanced, workAfter, workChange, outputRow}
+use Rattle.session.specs.Rows.{strip, Advanced, workAfter, workChange}
 use Rattle.session.proofs.Strips.{Partly, partly-none, partly-more, partly-all, output-slanted}
 use Rattle.slopes.specs.Slopes.{edgesChange}
 use Rattle.slopes.proofs.Parts.{change-parts}

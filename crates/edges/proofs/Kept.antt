@@ -1,18 +1,18 @@
 -- The slopes that the code keeps: none at first, a cell more of each, and those of the next row. What they add to the work area.
 -- Assumes nothing.
 use mathlib.Core.Path.{_≡_, refl, sym, _∙_, ap, ap₂}
-use Prim.Native.Nat.{ℕ, suc, _+_, _-_, _*_, _≤_, _<_}
+use Prim.Native.Nat.{ℕ, _+_, _-_, _*_, _≤_, _<_}
 use native.Mathlib.Omega.{arith}
 use native.Mathlib.Decide.{decLt}
 use mathlib.Core.List.{List}
 use lib.Dec.{leb}
-use lib.ListN.{length, replicate, length-replicate, getD-replicate}
+use lib.ListN.{replicate, length-replicate, getD-replicate}
 use lib.IntN.{ℤ, pos, negsuc, natAbs, _+ℤ_, _-ℤ_, +ℤ-assoc}
 use lib.Signed.{mag}
 use Rattle.numbers.specs.Sum.{sumTo, pick}
 use Rattle.numbers.specs.Grid.{tabulate}
 use Rattle.numbers.specs.Wrap.{wrap}
-use Rattle.numbers.proofs.Grids.{tabulate-cong, length-tabulate, getD-tabulate}
+use Rattle.numbers.proofs.Grids.{tabulate-cong, getD-tabulate}
 use Rattle.numbers.proofs.Wraps.{wrap-add}
 use Rattle.numbers.proofs.Writes.{at, at-past}
 use Rattle.picture.specs.declared.Size.{Size}

@@ -1,6 +1,5 @@
 // Many rows of a diamond's or hexagon's window sums, at a cost that does not grow with the window: the slopes of its edges are kept from row to row.
 // For callers that have checked their inputs.
-ghost use mathlib.Core.Path.{_≡_};
 ghost use Prim.Native.Nat.{suc};
 ghost use Rattle.picture.specs.Window.{shapeOf};
 ghost use Rattle.picture.specs.Picture.{source, inputs, planeAt};

@@ -1,6 +1,5 @@
 // Planes 0, 1 and 2, whose values are ones and levels: rows of 16 bits, and slopes of 32.
 // For callers that have checked their inputs.
-ghost use mathlib.Core.Path.{_≡_};
 ghost use Prim.Native.Nat.{_≤_, suc};
 ghost use Rattle.picture.specs.Window.{shapeOf};
 ghost use Rattle.picture.specs.Picture.{source, inputs, planeAt};

@@ -1,6 +1,5 @@
-// Planes 3, 4 and 5, whose values are products of levels: rows and slopes of 64 bits. They are right for every plane.
+// Planes 3, 4 and 5, whose values are products of levels: rows and slopes of 64 bits. It is right for every plane.
 // For callers that have checked their inputs.
-ghost use mathlib.Core.Path.{_≡_};
 ghost use Prim.Native.Nat.{suc};
 ghost use Rattle.picture.specs.Window.{shapeOf};
 ghost use Rattle.picture.specs.Picture.{source, inputs, planeAt};

@@ -1,13 +1,13 @@
 -- Rows one after another, as a loop makes them.
 -- Assumes nothing.
 use mathlib.Core.Path.{_≡_, refl, sym, _∙_, ap, ap₂}
-use Prim.Native.Nat.{ℕ, zero, suc, _+_, _-_, _*_, _≤_, _<_}
+use Prim.Native.Nat.{ℕ, suc, _+_, _-_, _*_, _≤_, _<_}
 use native.Mathlib.Omega.{arith}
 use native.Mathlib.Nat.{mul-le-mul-right}
 use native.Mathlib.Numerals.{add-one}
 use mathlib.Core.Bool.{false, true≢false}
-use mathlib.Core.List.{List, [], _∷_, _++_, append-assoc}
-use lib.ListN.{length, take, drop, length-append}
+use mathlib.Core.List.{List, _++_, append-assoc}
+use lib.ListN.{length, take, length-append}
 use lib.Seq.{take-all, take-at, length-take-le}
 use lib.IntN.{ℤ}
 use borrow.Rule.Slice.PartMut.{putMid, postOf}

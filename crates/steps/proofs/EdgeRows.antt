@@ -1,7 +1,7 @@
 -- The columns at one distance, added to a work area by two shifted rows; and all distances together.
 -- Assumes nothing.
 use mathlib.Core.Path.{_≡_, refl, sym, _∙_, ap, ap₂}
-use Prim.Native.Nat.{ℕ, zero, suc, _+_, _-_, _≤_, _<_, min}
+use Prim.Native.Nat.{ℕ, suc, _+_, _-_, _≤_, _<_, min}
 use native.Mathlib.Omega.{arith}
 use native.Mathlib.Decide.{decLt}
 use native.Mathlib.Numerals.{one-add}
@@ -16,7 +16,7 @@ use Rattle.numbers.specs.Wrap.{wrap}
 use Rattle.numbers.proofs.Grids.{tabulate-cong, getD-tabulate, length-tabulate}
 use Rattle.numbers.proofs.Sums.{sum-suc, sum-cong, sum-split, pick-yes, pick-no}
 use Rattle.numbers.proofs.Wraps.{wrap-add, wrap-add-right, wrap-fits, sfits-wrap}
-use Rattle.numbers.proofs.Writes.{at, at-past, is-tabulate, tabulate-at, part-before, part-within, part-after, part-length, slice-at, slice-length}
+use Rattle.numbers.proofs.Writes.{at, at-past, is-tabulate, tabulate-at, part-before, part-within, part-after, part-length, slice-at}
 use Rattle.picture.specs.declared.Size.{Size}
 use Rattle.picture.specs.Window.{Shape, Slanted, slanted, width, depth}
 use Rattle.session.specs.Rows.{enterLeave, workChange, workAfter}
