@@ -10,7 +10,7 @@ ghost use Rattle.change.specs.Lines.{ExchangeAsked, Numbers};
 use picture::Shift;
 use picture::Size;
 
-mod line; // line.rt: where the counting cells of a row stand in the pictures
+pub mod line; // line.rt: where the counting cells of a row stand in the pictures
 mod values; // values.rt: the values of two rows, plane by plane
 
 // Every number is of 64 bits. The loop reads each and keeps nothing, so the compiler leaves no code of it.
