@@ -20,8 +20,8 @@ use Rattle.picture.specs.Conditions.{accepted, inputChecks, check7, check8}
 use Rattle.picture.specs.Direct.{windowSum, directSum, directCall}
 use Rattle.picture.proofs.Refusals.{InLimits, in-limits, Accepted, accepted-has, direct-answers, pass-all, none-head, none-rest, outcome-none, pass, no-checks}
 use Rattle.picture.proofs.Planes.{plane-bound}
-use Rattle.table.specs.Table.{tableOf, buildCall, readCall}
-use Rattle.table.proofs.Reading.{build-fills, read-answers}
+use Rattle.cumulative.specs.Table.{tableOf, buildCall, readCall}
+use Rattle.cumulative.proofs.Reading.{build-fills, read-answers}
 use Rattle.session.specs.Rows.{RowOutcome, Strip, strip, rowCall, rowResult, rowChecks}
 use Rattle.session.proofs.Steps.{Ready, Done, strip-done}
 use Rattle.statistics.specs.declared.Sums.{Sums}

@@ -4,8 +4,8 @@
 --   rows::rows, rows::rows_at and rows::rows_plain    answer, position, work and output area of `rowCall`
 --   direct::direct_sum                                the answer of `directCall`
 --   table::build, table::read                         answer and area of `buildCall`; the answer of `readCall`
---   statistics: mean, variance, deviation, voice      the answers of `meanCall`, `varianceCall`, `deviationCall`, `voiceCall`
---   answer and coefficient                            and `coefficientCall`
+--   moments::mean, variance, deviation, voice_answer  the answers of `meanCall`, `varianceCall`, `deviationCall`, `voiceCall`
+--   correlation::coefficient                          the answer of `coefficientCall`
 -- A list of calls of `rows` on one session leaves, call by call, what `next` says of `Progress`; the session's position and work area
 -- after one call are those before the next. The pictures are slices of i16, so `Levels` holds of their contents. The table's area is
 -- what `build` left in it, untouched since.
@@ -23,7 +23,7 @@ use Rattle.picture.specs.declared.Size.{Size}
 use Rattle.picture.specs.Size.{cells}
 use Rattle.picture.specs.Conditions.{accepted}
 use Rattle.picture.specs.Direct.{directSum, directCall}
-use Rattle.table.specs.Table.{buildCall, readCall}
+use Rattle.cumulative.specs.Table.{buildCall, readCall}
 use Rattle.session.specs.Rows.{RowOutcome, rowCall, rowChecks}
 use Rattle.statistics.specs.declared.Sums.{Sums}
 use Rattle.statistics.specs.SixSums.{sixSums}

@@ -3,8 +3,6 @@ ghost use mathlib.Core.Path.{_≡_};
 ghost use lib.IntN.{pos, natAbs, _+ℤ_, _-ℤ_, _*ℤ_};
 ghost use Rattle.numbers.specs.Wrap.{residue, spelled, wrap};
 
-pub mod wide; // wide.rt: products past 64 bits
-
 // The 64 bits of a.
 fn bits(a: i64) -> u64
     ensures { λ r. ⌜ r ≡ residue a ⌝ }

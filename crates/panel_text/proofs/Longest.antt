@@ -23,11 +23,11 @@ use Rattle.smoothed.specs.Smoothing.{smoothed}
 use Rattle.smoothed.proofs.Means.{mean-level, smoothed-at}
 use Rattle.panel_language.specs.Text.{space, lineFeed, runs, number, decimal, printed}
 use Rattle.panel_language.specs.Panel.{Drawing, countOf, panelSize, levelsOf, framed, filled, sized, parsed, lineOf, linesOf, shown, panel}
-use Rattle.panel_text.specs.Print.{valueAt}
+use Rattle.panel_print.specs.Print.{valueAt}
 use Rattle.panel_text.specs.Rendered.{Rendering, rendered}
 use Rattle.panel_language.proofs.Legal.{Legal, parsed-legal}
-use Rattle.panel_text.proofs.Bytes.{few-digits, level-bytes}
-use Rattle.panel_text.proofs.Drawings.{cells-few}
+use Rattle.panel_print.proofs.Bytes.{few-digits, level-bytes}
+use Rattle.panel_read.proofs.Drawings.{cells-few}
 use Rattle.panel_text.proofs.Shows.{in-size}
 
 -- ---- a refusal's number has at most two digits

@@ -20,14 +20,15 @@ use Rattle.picture.specs.Window.{windowLegal}
 use Rattle.picture.proofs.Refusals.{pass, no-checks, length-passes, in-limits}
 use Rattle.smoothed.specs.Smoothing.{smoothed, smoothChecks, smoothCall}
 use Rattle.smoothed.proofs.Means.{smooth-writes}
-use Rattle.panel_text.specs.declared.read.Parsed.{Parsed}
-use Rattle.panel_text.specs.declared.read.Parsed.the-variants.{Refused, Taken}
+use Rattle.panel_read.specs.declared.Parsed.{Parsed}
+use Rattle.panel_read.specs.declared.Parsed.the-variants.{Refused, Taken}
 use Rattle.panel_language.specs.Panel.{panelSize, linesOf, refusedLine, parsed, shown, panel}
-use Rattle.panel_text.specs.Read.{drawn}
-use Rattle.panel_text.specs.Print.{Fitted, valueAt, LinesRoom, Showable}
+use Rattle.panel_read.specs.Read.{drawn}
+use Rattle.panel_print.specs.Print.{Fitted, valueAt, LinesRoom}
+use Rattle.panel_text.specs.Shown.{Showable}
 use Rattle.panel_text.specs.Rendered.{Rendering, rendered}
 use Rattle.panel_language.proofs.Legal.{parsed-legal}
-use Rattle.panel_text.proofs.Drawings.{cells-few, cells-part}
+use Rattle.panel_read.proofs.Drawings.{cells-few, cells-part}
 
 pub in-size : (z : Size) → T (panelSize z) → T (sizeLegal z)
 unfolding panelSize

@@ -15,7 +15,7 @@ fn mean(n: i64, s: i64) -> i16
     requires { ⌜ LevelMean n s ⌝ }
     ensures { λ r. ⌜ r ≡ nearest s (natAbs n) ⌝ }
 {
-    statistics::moments::nearest(s, n as u64) as i16
+    moments::nearest(s, n as u64) as i16
 }
 
 // The means of a row.

@@ -1,14 +1,4 @@
-// Statistics of six sums: mean, variance, deviation, voice answer and coefficient. Each takes any six i64 and refuses those that are impossible.
-
-pub mod central; // central.rt: refusal 9, and what the six sums give together
-pub mod correlation; // correlation.rt: the coefficient
-pub mod moments; // moments.rt: mean, variance, deviation and voice answer
-
-pub use correlation::coefficient;
-pub use moments::deviation;
-pub use moments::mean;
-pub use moments::variance;
-pub use moments::voice_answer;
+// Statistics of six sums: what they take, what they answer, and what that means. The functions are in `central`, `moments` and `correlation`.
 
 // "These take six sums N, S, T, A, B, P (planes 0 to 5)."
 pub struct Sums {

@@ -16,8 +16,9 @@ use Rattle.picture.specs.Window.{windowLegal}
 use Rattle.picture.specs.Picture.{Source, Levels}
 use Rattle.picture.specs.Conditions.{pictureChecks}
 use Rattle.picture.proofs.Refusals.{cell-inside, none-head, none-rest, number-0, number-refused, outcome-none, outcome-some, filling-none, filling-some}
-use Rattle.table.specs.Table.{tableOf, buildChecks, buildCall, readTable, readChecks, readCall}
-use Rattle.table.specs.Inner.{Buildable, ReadableAt}
+use Rattle.cumulative.specs.Table.{tableOf, buildChecks, buildCall, readTable, readChecks, readCall}
+use Rattle.fill.specs.Fill.{Buildable}
+use Rattle.corners.specs.Corners.{ReadableAt}
 
 -- pictures that pass have a legal size
 pub pictures-legal : (z : Size) (f g : List ℤ) → numberOf (refusal (pictureChecks z f g)) ≡ 0 → T (sizeLegal z)

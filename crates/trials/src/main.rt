@@ -3,25 +3,6 @@
 ghost use mathlib.Core.Path.{_≡_};
 ghost use lib.ListN.{length};
 
-mod answers; // answers.rt: answers of the library as numbers
-mod areas; // areas.rt: areas of numbers
-mod cases; // cases.rt: a case of the trials
-mod corners; // corners.rt: the rival's reading of a table
-mod direct_sums; // direct_sums.rt: direct sums
-mod faults; // faults.rt: calls with faults
-mod impossible; // impossible.rt: sums that are impossible
-mod limits; // limits.rt: sizes and windows at their limits
-mod means; // means.rt: smoothing and the steady search
-mod moments; // moments.rt: the rival's statistics
-mod places; // places.rt: the cases and cells that the trials go through
-mod random; // random.rt: the generator
-mod recurrence; // recurrence.rt: the rival's row session
-mod refusals; // refusals.rt: refused calls
-mod rival; // rival.rt: the rival's sums
-mod sessions; // sessions.rt: row sessions
-mod six_sums; // six_sums.rt: statistics
-mod tables; // tables.rt: cumulative tables
-mod tally; // tally.rt: what a group has compared
 mod texts; // texts.rt: panel's texts
 
 // Room for a picture, and for a table of it.
@@ -50,11 +31,11 @@ fn pictures() {
     let mut g = levels();
     let mut smooth = levels();
     let mut table = numbers();
-    limits::run(&mut f);
-    direct_sums::run(&mut f, &mut g);
-    tables::run(&mut f, &mut g, &mut table);
-    means::run(&mut f, &mut g, &mut smooth);
-    six_sums::run(&mut f, &mut g);
+    sum_trials::limits::run(&mut f);
+    sum_trials::direct_sums::run(&mut f, &mut g);
+    sum_trials::tables::run(&mut f, &mut g, &mut table);
+    smoothing_trials::run(&mut f, &mut g, &mut smooth);
+    statistics_trials::six_sums::run(&mut f, &mut g);
 }
 
 fn calls() {
@@ -65,7 +46,7 @@ fn calls() {
     let mut out = numbers();
     let mut rival_work = numbers();
     let mut rival_out = numbers();
-    sessions::run(
+    session_trials::run(
         &mut f,
         &mut g,
         &mut work,
@@ -73,8 +54,8 @@ fn calls() {
         &mut rival_work,
         &mut rival_out,
     );
-    refusals::run(&mut f, &mut g, &mut work, &mut out, &mut smooth);
-    impossible::run();
+    refusal_trials::run(&mut f, &mut g, &mut work, &mut out, &mut smooth);
+    statistics_trials::impossible::run();
 }
 
 fn panel() {

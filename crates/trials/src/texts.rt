@@ -1,9 +1,9 @@
 // Panel's texts: taken ones, and every kind of refused one, beside outputs written out.
 ghost use mathlib.Core.Path.{_≡_};
 ghost use lib.ListN.{length};
-use crate::areas;
-use crate::tally;
-use crate::tally::Tally;
+use trial_tools::areas;
+use trial_tools::tally;
+use trial_tools::tally::Tally;
 
 // The bytes of the output, compared with what is expected.
 fn compare(out: &[u8], expected: &[u8], tally: Tally) -> Tally {
@@ -66,15 +66,20 @@ fn refused_sizes(tally: Tally) -> Tally {
     shown(b"256 17 1 0 0", b"refused 1\n", t)
 }
 
-// "any other malformed, missing or extra number or a level beyond 16 bits, 10; then 3"
-fn refused_numbers(tally: Tally) -> Tally {
+// "any other .. missing or extra number .. 10"
+fn refused_counts(tally: Tally) -> Tally {
     let mut t = tally;
     t = shown(b"1 1", b"refused 10\n", t);
     t = shown(b"1 1 1 0", b"refused 10\n", t);
     t = shown(b"1 1 1 0 0", b"refused 10\n", t);
     t = shown(b"1 2 1 0 0 5", b"refused 10\n", t);
     t = shown(b"1 1 1 0 0 5 6", b"refused 10\n", t);
-    t = shown(b"1 1 1 0 0 5 x", b"refused 10\n", t);
+    shown(b"1 1 1 0 0 5 x", b"refused 10\n", t)
+}
+
+// "any other malformed .. number or a level beyond 16 bits, 10"
+fn refused_numbers(tally: Tally) -> Tally {
+    let mut t = tally;
     t = shown(b"1 1 1 0 0 5x", b"refused 10\n", t);
     t = shown(b"1 1 1 0 0 --5", b"refused 10\n", t);
     t = shown(b"1 1 1 0 0 +5", b"refused 10\n", t);
@@ -83,7 +88,12 @@ fn refused_numbers(tally: Tally) -> Tally {
     t = shown(b"1 1 1 0 0 32768", b"refused 10\n", t);
     t = shown(b"1 1 1 0 0 -32769", b"refused 10\n", t);
     t = shown(b"1 1 9 0 0 x", b"refused 10\n", t);
-    t = shown(b"1 1 9 0 0 99999", b"refused 10\n", t);
+    shown(b"1 1 9 0 0 99999", b"refused 10\n", t)
+}
+
+// "then 3"
+fn refused_windows(tally: Tally) -> Tally {
+    let mut t = tally;
     t = shown(b"1 1 0 0 0 5", b"refused 3\n", t);
     t = shown(b"1 1 4 0 0 5", b"refused 3\n", t);
     t = shown(b"1 1 1 128 0 5", b"refused 3\n", t);
@@ -131,7 +141,8 @@ fn long(expected: &[u8], text: &[u8], t: Tally) -> Tally {
 }
 
 pub fn run(text: &mut [u8]) {
-    let short = refused_numbers(refused_sizes(taken(tally::fresh())));
+    let sized = refused_sizes(taken(tally::fresh()));
+    let short = refused_windows(refused_numbers(refused_counts(sized)));
     prepare(b"1 1 1 0 0 5", text);
     let accepted = long(b"5\n", text, short);
     prepare(b"257 1 1 0 0", text);
