@@ -4,10 +4,10 @@ use mathlib.Core.Path.{_≡_, refl, sym, _∙_, ap, ap₂}
 use Prim.Native.Nat.{ℕ, zero, suc, _+_, _-_, _≤_, _<_}
 use native.Mathlib.Omega.{arith}
 use native.Mathlib.Decide.{decLt}
-use mathlib.Core.Bool.{Bool, true, false, _&&_}
+use mathlib.Core.Bool.{true, false, _&&_}
 use mathlib.Core.List.{List}
 use lib.Dec.{T, leb, ltb, leb→le, ltb→lt}
-use lib.ListN.{length, getD, take, drop, replicate, length-take}
+use lib.ListN.{length, take, drop, replicate, length-take}
 use lib.Seq.{getD-take, getD-drop}
 use lib.IntN.{ℤ, pos, negsuc, _+ℤ_, _-ℤ_, _*ℤ_, +ℤ-idr}
 use borrow.Rule.Slice.PartMut.{putMid}
@@ -16,7 +16,7 @@ use Rattle.numbers.specs.Wrap.{wrap}
 use Rattle.numbers.proofs.Tests.{and-left, and-right}
 use Rattle.numbers.proofs.Grids.{tabulate-cong}
 use Rattle.numbers.proofs.Sums.{pick-yes, pick-no}
-use Rattle.numbers.proofs.Writes.{at, is-tabulate, tabulate-at, part-before, part-within, part-after, part-length, slice-at, at-past}
+use Rattle.numbers.proofs.Writes.{at, is-tabulate, tabulate-at, part-before, part-within, part-after, part-length, slice-at, slice-length, at-past}
 use Rattle.planes.specs.declared.Overlap.{Overlap}
 use Rattle.picture.specs.Picture.{Source, planeValue, planeAt}
 use Rattle.planes.specs.Overlaps.{Overlapping}
@@ -138,6 +138,14 @@ module _ (f g : List ℤ) (n : ℕ) (l : Line) (i : Lies f g n l) where
   pub lent-value : (p k : ℕ) → k < n → planeValue p (at lent-f k) (at lent-g k) ≡ planeValue p (at f (l .f + k)) (at g (l .g + k))
   lent-value p k k< =
       ap₂ (planeValue p) (slice-at (l .f) (l .f + n) f (omega arith) (i .in-f) k (omega arith)) (slice-at (l .g) (l .g + n) g (omega arith) (i .in-g) k (omega arith))
+
+  pub lent-lengths : (length lent-f ≡ n) × (length lent-g ≡ n)
+  lent-lengths = (part (l .f) f (i .in-f), part (l .g) g (i .in-g))
+    where
+      part : (lo : ℕ) (h : List ℤ) → lo + n ≤ length h → length (take (lo + n - lo) (drop lo h)) ≡ n
+      part lo h r =
+          let e : lo + n - lo ≡ n = omega arith in
+          slice-length lo (lo + n) h (omega arith) r ∙ e
 
 module _ (p : ℕ) (f g sums out : List ℤ) (a b : Line) (i : Lies f g (length sums) a) (j : Lies f g (length sums) b) where
   abbrev n : ℕ

@@ -1,24 +1,23 @@
 -- The line of a row: where it lies, and that its values are the plane's.
 -- Assumes nothing.
-use mathlib.Core.Path.{_≡_, refl, sym, _∙_, ap, ap₂}
-use Prim.Native.Nat.{ℕ, zero, suc, _+_, _-_, _*_, _≤_, _<_}
+use mathlib.Core.Path.{_≡_, sym, _∙_, ap, ap₂}
+use Prim.Native.Nat.{ℕ, _+_, _-_, _*_, _≤_, _<_}
 use native.Mathlib.Omega.{arith}
 use native.Mathlib.Decide.{decLt}
-use native.Mathlib.Nat.{mul-le-mul-right}
-use mathlib.Core.Bool.{Bool, true, false, _&&_}
+use native.Mathlib.Nat.{le-add-right, mul-le-mul-right}
+use mathlib.Core.Bool.{true, false, _&&_}
 use mathlib.Core.List.{List}
 use lib.Dec.{T, leb, ltb, leb→le, ltb→lt, le→leb, lt→ltb}
 use lib.ListN.{length, getD}
 use lib.IntN.{ℤ, pos, natAbs, _+ℤ_}
-use Rattle.numbers.specs.Sum.{pick}
 use Rattle.numbers.proofs.Tests.{and-left, and-right, and-both, off, same-test}
 use Rattle.numbers.proofs.Sums.{pick-yes, pick-no}
 use Rattle.picture.proofs.Refusals.{InLimits}
 use Rattle.picture.specs.declared.Size.{Size}
 use Rattle.planes.specs.declared.Overlap.{Overlap}
 use Rattle.picture.specs.Size.{inRange, inside, cells}
-use Rattle.picture.specs.Picture.{Source, planeValue, counts, planeAt, levelOf, otherOf}
-use Rattle.planes.specs.Overlaps.{Overlapping}
+use Rattle.picture.specs.Picture.{Source, planeValue, counts, planeAt}
+use Rattle.planes.specs.Overlaps.{Overlapping, Clipped}
 use Rattle.planes.proofs.RowParts.{row-end, other-inside}
 use Rattle.change.specs.declared.line.Line.{Line}
 use Rattle.change.specs.Lines.{line, lineOf, lineValue, Span, Lies}
@@ -61,8 +60,8 @@ line-lies z o along m f g lim r c lf lg = go (decLt m (o .first)) (decLt m (o .e
           in-g = omega (arith, lg, c .other-within, row-end (o .other + (m - o .first)) (z .rows) (z .columns) (other-inside (o .first) (o .end) (o .other) m (z .rows) (omega arith) b (r .other-within)));
         })
 
--- ---- its values are the plane's
-module _ (x : Source) (o along : Overlap) (v : Overlapping (x .size .rows) (x .shift .down) o) (h : Overlapping (x .size .columns) (x .shift .right) along) (m : ℕ) where
+-- ---- the rows that count
+module _ (x : Source) (o : Overlap) (v : Overlapping (x .size .rows) (x .shift .down) o) (m : ℕ) where
   abbrev rows : ℕ
   rows = x .size .rows
 
@@ -78,30 +77,22 @@ module _ (x : Source) (o along : Overlap) (v : Overlapping (x .size .rows) (x .s
       let here = ltb m rows && ltb n columns in
       pick-no (counts x m n) _ (λ t. no-row (rw (← v .counts m (ltb→lt m rows (and-left (ltb m rows) (ltb n columns) (and-left here (there && across) t)))) (and-left there across (and-right here (there && across) t))))
 
-  -- a column that does not count
-  pub column-outside : (n : ℕ) → n < columns → (T (leb (along .first) n && ltb n (along .end)) → ⊥) → planeAt x m n ≡ pos 0
-  unfolding planeAt counts
-  column-outside n n< no-column =
-      let there = inRange rows (pos m +ℤ x .shift .down) in
-      let across = inRange columns (pos n +ℤ x .shift .right) in
-      let here = inside (x .size) (pos m) (pos n) in
-      pick-no (counts x m n) _ (λ t. no-column (rw (← h .counts n n<) (and-right there across (and-right here (there && across) t))))
-
-  counted : (n : ℕ) → o .first ≤ m → m < o .end → along .first ≤ n → n < along .end → T (counts x m n)
+  counted : (n : ℕ) → o .first ≤ m → m < o .end → n < columns → T (inRange columns (pos n +ℤ x .shift .right)) → T (counts x m n)
   unfolding counts inRange
-  counted n a b c d =
+  counted n a b n< t =
       let there = inRange rows (pos m +ℤ x .shift .down) in
       let across = inRange columns (pos n +ℤ x .shift .right) in
       let m< : m < rows = omega (arith, b, v .within) in
-      let n< : n < columns = omega (arith, d, h .within) in
       and-both (ltb m rows && ltb n columns) (there && across) (and-both (ltb m rows) (ltb n columns) (lt→ltb m rows m<) (lt→ltb n columns n<))
-      (and-both there across
-      (rw (v .counts m m<) (and-both (leb (o .first) m) (ltb m (o .end)) (le→leb (o .first) m a) (lt→ltb m (o .end) b)))
-      (rw (h .counts n n<) (and-both (leb (along .first) n) (ltb n (along .end)) (le→leb (along .first) n c) (lt→ltb n (along .end) d))))
+      (and-both there across (rw (v .counts m m<) (and-both (leb (o .first) m) (ltb m (o .end)) (le→leb (o .first) m a) (lt→ltb m (o .end) b))) t)
 
-  pub line-value : (k : ℕ) → k < along .end - along .first → lineValue (x .plane) (x .f) (x .g) (lineOf (x .size) o along m) k ≡ planeAt x m (along .first + k)
+  -- a cell of a line whose column n counts, and meets the column of g that the line has there
+  cell-value : (along : Overlap) (k : ℕ) →
+      let n = along .first + k in
+      n < columns → T (inRange columns (pos n +ℤ x .shift .right)) → natAbs (pos n +ℤ x .shift .right) ≡ along .other + k →
+      lineValue (x .plane) (x .f) (x .g) (lineOf (x .size) o along m) k ≡ planeAt x m n
   unfolding lineValue planeAt
-  line-value k k< = go (decLt m (o .first)) (decLt m (o .end))
+  cell-value along k n< t e = go (decLt m (o .first)) (decLt m (o .end))
     where
       n : ℕ
       n = along .first + k
@@ -116,11 +107,66 @@ module _ (x : Source) (o along : Overlap) (v : Overlapping (x .size .rows) (x .s
       go (no a) (no b) = none (λ t. omega (arith, ltb→lt m (o .end) (and-right (leb (o .first) m) (ltb m (o .end)) t)))
       go (no a) (yes b) =
           let in-f : m * columns + along .first + k ≡ m * columns + n = omega arith in
-          let in-g : (o .other + (m - o .first)) * columns + along .other + k ≡ (o .other + (m - o .first)) * columns + (along .other + (n - along .first)) = omega arith in
+          let in-g : (o .other + (m - o .first)) * columns + along .other + k ≡ (o .other + (m - o .first)) * columns + (along .other + k) = omega arith in
           ap (λ (l : Line). lineValue (x .plane) (x .f) (x .g) l k) (sym (line-some (x .size) o along m (omega arith) b))
           ∙ pick-yes true _ tt
           ∙ ap₂ (planeValue (x .plane)) (ap (λ (i : ℕ). getD (x .f) i (pos 0)) in-f)
           (ap (λ (i : ℕ). getD (x .g) i (pos 0)) in-g
-          ∙ ap (λ (c : ℕ). getD (x .g) ((o .other + (m - o .first)) * columns + c) (pos 0)) (sym (h .place n (omega arith) (omega arith)))
+          ∙ ap (λ (c : ℕ). getD (x .g) ((o .other + (m - o .first)) * columns + c) (pos 0)) (sym e)
           ∙ ap (λ (r : ℕ). getD (x .g) (r * columns + natAbs (pos n +ℤ x .shift .right)) (pos 0)) (sym (v .place m (omega arith) b)))
-          ∙ sym (pick-yes (counts x m n) _ (counted n (omega arith) b (omega arith) (omega arith)))
+          ∙ sym (pick-yes (counts x m n) _ (counted n (omega arith) b n< t))
+
+-- ---- and the columns
+module _ (x : Source) (o along : Overlap) (v : Overlapping (x .size .rows) (x .shift .down) o) (h : Overlapping (x .size .columns) (x .shift .right) along) (m : ℕ) where
+  -- a column that does not count
+  pub column-outside : (n : ℕ) → n < x .size .columns → (T (leb (along .first) n && ltb n (along .end)) → ⊥) → planeAt x m n ≡ pos 0
+  unfolding planeAt counts
+  column-outside n n< no-column =
+      let there = inRange (x .size .rows) (pos m +ℤ x .shift .down) in
+      let across = inRange (x .size .columns) (pos n +ℤ x .shift .right) in
+      let here = inside (x .size) (pos m) (pos n) in
+      pick-no (counts x m n) _ (λ t. no-column (rw (← h .counts n n<) (and-right there across (and-right here (there && across) t))))
+
+  column-counts : (n : ℕ) → along .first ≤ n → n < along .end → T (inRange (x .size .columns) (pos n +ℤ x .shift .right))
+  column-counts n a b = rw (h .counts n (omega (arith, h .within))) (and-both (leb (along .first) n) (ltb n (along .end)) (le→leb (along .first) n a) (lt→ltb n (along .end) b))
+
+  -- the line's values are the plane's
+  pub line-value : (k : ℕ) → k < along .end - along .first → lineValue (x .plane) (x .f) (x .g) (lineOf (x .size) o along m) k ≡ planeAt x m (along .first + k)
+  line-value k k< =
+      let n = along .first + k in
+      let b : n < along .end = omega arith in
+      let e : along .other + (n - along .first) ≡ along .other + k = omega arith in
+      cell-value x o v m along k (omega (arith, h .within)) (column-counts n (le-add-right (along .first) k) b) (h .place n (le-add-right (along .first) k) b ∙ e)
+
+  -- and so are those of the line of the columns from lo up to hi
+  module _ (lo hi : ℕ) (r : Overlap) (c : Clipped along lo hi r) (within : hi ≤ x .size .columns) where
+    pub clipped-outside : (n : ℕ) → lo ≤ n → n < hi → (r .first ≤ n → n < r .end → ⊥) → planeAt x m n ≡ pos 0
+    clipped-outside n a b never = column-outside n (omega arith) (λ t. inside-clip (rw (c .counts n a b) at t))
+      where
+        inside-clip : T (leb (r .first) n && ltb n (r .end)) → ⊥
+        inside-clip t = never (leb→le (r .first) n (and-left (leb (r .first) n) (ltb n (r .end)) t)) (ltb→lt n (r .end) (and-right (leb (r .first) n) (ltb n (r .end)) t))
+
+    pub clipped-value : (k : ℕ) → k < r .end - r .first → lineValue (x .plane) (x .f) (x .g) (lineOf (x .size) o r m) k ≡ planeAt x m (r .first + k)
+    clipped-value k k< =
+        cell-value x o v m r k n< (column-counts n from upto) (h .place n from upto ∙ c .place n (le-add-right (r .first) k) end ∙ e)
+      where
+        n : ℕ
+        n = r .first + k
+
+        end : n < r .end
+        end = omega arith
+
+        n< : n < x .size .columns
+        n< = omega (arith, c .upto, end)
+
+        in-along : T (leb (along .first) n && ltb n (along .end))
+        in-along = rw (c .counts n (omega (arith, c .from)) (omega (arith, c .upto, end))) (and-both (leb (r .first) n) (ltb n (r .end)) (le→leb (r .first) n (le-add-right (r .first) k)) (lt→ltb n (r .end) end))
+
+        from : along .first ≤ n
+        from = leb→le (along .first) n (and-left (leb (along .first) n) (ltb n (along .end)) in-along)
+
+        upto : n < along .end
+        upto = ltb→lt n (along .end) (and-right (leb (along .first) n) (ltb n (along .end)) in-along)
+
+        e : r .other + (n - r .first) ≡ r .other + k
+        e = omega arith

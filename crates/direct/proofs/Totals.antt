@@ -1,61 +1,131 @@
--- Sums that a loop makes, wrapped at 64 bits.
+-- Sums that a loop makes, of a row's values and of a window's rows.
 -- Assumes nothing.
-use mathlib.Core.Path.{_≡_, refl, sym, ap, _∙_}
-use Prim.Native.Nat.{ℕ, zero, suc, _+_, _-_, _^_, _≤_, _<_, min}
-use native.Mathlib.Nat.{mul-le-mul}
+use mathlib.Core.Path.{_≡_, refl, sym, ap, ap₂, _∙_}
+use Prim.Native.Nat.{ℕ, zero, suc, _+_, _-_, _*_, _^_, _≤_, _<_, min}
+use native.Mathlib.Nat.{le-add-right, mul-le-mul}
 use native.Mathlib.Omega.{arith}
+use mathlib.Core.Bool.{true, false}
 use mathlib.Core.List.{List}
 use lib.Dec.{T, leb}
 use lib.ListN.{length}
 use native.Mathlib.Numerals.{add-one}
-use lib.IntN.{ℤ, pos, _+ℤ_, +ℤ-assoc, +ℤ-idl, +ℤ-idr}
-use mir.Syntax.{w64}
+use lib.IntN.{ℤ, pos, natAbs, _+ℤ_, _-ℤ_, +ℤ-idr}
+use mir.Syntax.{w16, w32, w64}
 use mir.Val.{SFits}
 use Rattle.numbers.specs.Sum.{sumTo, pick}
 use Rattle.numbers.specs.Wrap.{wrap}
-use Rattle.numbers.proofs.Sums.{sum-suc, sum-cong, near-range}
-use Rattle.numbers.proofs.Wraps.{wrap-add, wrap-fits, wrap-small}
+use Rattle.numbers.proofs.Magnitudes.{size-add, fits-at, fits64}
+use Rattle.numbers.proofs.Widths.{level-size}
+use Rattle.numbers.proofs.Sums.{sum-suc, sum-cong, sum-none, sum-split, sum-range, near-range}
+use Rattle.numbers.proofs.Wraps.{wrap-add-right, wrap-fits, wrap-small}
 use Rattle.numbers.proofs.Writes.{at}
-use Rattle.picture.specs.declared.Window.{Window}
 use Rattle.picture.specs.Size.{sizeLegal, rowGap, columnGap}
-use Rattle.picture.specs.Window.{windowLegal, shapeOf, height, reach}
-use Rattle.picture.specs.Picture.{Levels, Inputs, planeAt}
+use Rattle.picture.specs.Window.{shapeOf, height, reach}
+use Rattle.picture.specs.Picture.{Levels, Inputs, planeValue, planeAt}
 use Rattle.picture.specs.Direct.{windowSum, directSum}
-use Rattle.direct.specs.Summing.{windowRow}
 use Rattle.picture.proofs.Refusals.{in-limits}
-use Rattle.picture.proofs.Windows.{small, by-rows, window-bound}
+use Rattle.picture.proofs.Windows.{by-rows, window-bound}
 use Rattle.picture.proofs.Planes.{plane-bound}
+use Rattle.planes.specs.declared.Overlap.{Overlap}
+use Rattle.planes.specs.Overlaps.{Overlapping, Clipped}
+use Rattle.change.specs.declared.line.Line.{Line}
+use Rattle.change.specs.Lines.{lineOf, lineValue, Lies}
+use Rattle.change.proofs.LineValues.{clipped-outside, clipped-value}
+use Rattle.change.proofs.Exchanges.{line-on, line-off, lent-f, lent-g, lent-value}
 
-pub total-none : (start : ℤ) (f : ℕ → ℤ) → SFits w64 start → start ≡ wrap (start +ℤ sumTo 0 f)
+-- ---- levels, in 32 bits: s is the sum of the first k
+pub record Exact (f : ℕ → ℤ) (k : ℕ) (s : ℤ) : Type 0 where
+  pub sum : s ≡ sumTo k f
+  pub bound : natAbs s ≤ k * 32768
+
+pub exact-none : (f : ℕ → ℤ) → Exact f 0 (pos 0)
 unfolding sumTo
-total-none start f h = sym (ap wrap (+ℤ-idr start) ∙ wrap-fits start h)
+exact-none f = record { sum = refl; bound = omega arith }
 
--- one number more
-pub total-more : (start s : ℤ) (f : ℕ → ℤ) (k : ℕ) → s ≡ wrap (start +ℤ sumTo k f) → wrap (s +ℤ f k) ≡ wrap (start +ℤ sumTo (k + 1) f)
-total-more start s f k e =
-    ap (λ (z : ℤ). wrap (z +ℤ f k)) e
-    ∙ wrap-add (start +ℤ sumTo k f) (f k)
-    ∙ ap wrap (+ℤ-assoc start (sumTo k f) (f k) ∙ ap (λ (z : ℤ). start +ℤ z) (sym (sum-suc k f) ∙ ap (λ (n : ℕ). sumTo n f) (sym (add-one k))))
+pub exact-64 : (f : ℕ → ℤ) (k : ℕ) (s : ℤ) → Exact f k s → k ≤ 1024 → SFits w64 s
+exact-64 f k s e h = fits64 s (omega (arith, e .bound))
 
--- ---- the window's part in a row, as a loop goes over it
-pub row-total : (x : Inputs) (i j m n : ℕ) (l : List ℤ) →
-    let r = reach (shapeOf (x .window)) (rowGap (x .source .size) i m) in
-    j < x .source .size .columns → n ≡ min (suc (j + r)) (x .source .size .columns) - (j - r) → length l ≡ n →
-    ((k : ℕ) → k < n → at l k ≡ planeAt (x .source) m (j - r + k)) → sumTo (length l) (at l) ≡ windowRow x i j m
-unfolding windowRow
-row-total x i j m n l h e s v =
-    let columns = x .source .size .columns in
-    let r = reach (shapeOf (x .window)) (rowGap (x .source .size) i m) in
-    let P = planeAt (x .source) m in
-    let left : min (j - r) columns ≡ j - r = omega arith in
-    ap (λ (k : ℕ). sumTo k (at l)) s
-    ∙ sum-cong n (at l) (λ k. P (j - r + k)) v
-    ∙ ap (λ (k : ℕ). sumTo k (λ k. P (j - r + k))) e
-    ∙ sym (near-range columns j r P ∙ ap (λ (k : ℕ). sumTo (min (suc (j + r)) columns - k) (λ q. P (k + q))) left)
+module _ (f : ℕ → ℤ) (k : ℕ) (s : ℤ) (e : Exact f k s) (level : SFits w16 (f k)) where
+  pub exact-more : Exact f (k + 1) (s +ℤ f k)
+  exact-more = record {
+    sum = ap (λ (z : ℤ). z +ℤ f k) (e .sum) ∙ sym (sum-suc k f) ∙ ap (λ (n : ℕ). sumTo n f) (sym (add-one k));
+    bound = omega (arith, e .bound, size-add s (f k), level-size (f k) level);
+  }
 
--- no row of a legal window is wider than 255 cells
-pub row-fits : (w : Window) (d j columns : ℕ) → T (windowLegal w) → min (suc (j + reach (shapeOf w) d)) columns - (j - reach (shapeOf w) d) ≤ 255
-row-fits w d j columns t = omega (arith, small w t .narrow d)
+  pub exact-fits : k < 1024 → SFits w32 (s +ℤ f k)
+  exact-fits h = fits-at w32 (s +ℤ f k) (omega (arith, e .bound, size-add s (f k), level-size (f k) level))
+
+-- ---- a plane's values, by what its loop summed
+pub ones : (n : ℕ) → pos n ≡ sumTo n (λ k. pos 1)
+unfolding sumTo
+ones zero = refl
+ones (suc n) =
+    let e : suc n ≡ n + 1 = omega arith in
+    ap pos e ∙ ap (λ (z : ℤ). z +ℤ pos 1) (ones n)
+
+pub as-plane : (p n : ℕ) (a b : List ℤ) (r : ℤ) (u : ℤ → ℤ → ℤ) → n ≡ length a → ((y z : ℤ) → planeValue p y z ≡ u y z) →
+    r ≡ wrap (sumTo n (λ k. u (at a k) (at b k))) → r ≡ wrap (sumTo (length a) (λ k. planeValue p (at a k) (at b k)))
+as-plane p n a b r u l h e =
+    e ∙ ap (λ (n : ℕ). wrap (sumTo n (λ k. u (at a k) (at b k)))) l
+    ∙ ap wrap (sum-cong (length a) (λ k. u (at a k) (at b k)) (λ k. planeValue p (at a k) (at b k)) (λ k k<. sym (h (at a k) (at b k))))
+
+-- ---- the cells of a line, added to a sum s
+module _ (p : ℕ) (f g : List ℤ) (l : Line) (n : ℕ) (s : ℤ) where
+  pub line-none-added : SFits w64 s → l .counts ≡ false → s ≡ wrap (s +ℤ sumTo n (lineValue p f g l))
+  line-none-added h e =
+      sym (ap (λ (z : ℤ). wrap (s +ℤ z)) (sum-none n (lineValue p f g l) (λ k k<. line-off p f g l k e)) ∙ ap wrap (+ℤ-idr s) ∙ wrap-fits s h)
+
+  -- t is what was summed of the levels as they were lent
+  pub line-added : (i : Lies f g n l) (m : ℕ) (t r : ℤ) → l .counts ≡ true → m ≡ n →
+      t ≡ wrap (sumTo m (λ k. planeValue p (at (lent-f f g n l i) k) (at (lent-g f g n l i) k))) → r ≡ wrap (s +ℤ t) → r ≡ wrap (s +ℤ sumTo n (lineValue p f g l))
+  line-added i m t r on e et er =
+      let lent : ℕ → ℤ = λ k. planeValue p (at (lent-f f g n l i) k) (at (lent-g f g n l i) k) in
+      er
+      ∙ ap (λ (z : ℤ). wrap (s +ℤ z)) (et ∙ ap (λ (k : ℕ). wrap (sumTo k lent)) e)
+      ∙ wrap-add-right s (sumTo n lent)
+      ∙ ap (λ (z : ℤ). wrap (s +ℤ z)) (sum-cong n lent (lineValue p f g l) (λ k k<. lent-value f g n l i p k k< ∙ sym (line-on p f g l k on)))
+
+-- ---- values from lo up to hi that are 0 before a and from b on
+module _ (f : ℕ → ℤ) where
+  gap : (lo hi : ℕ) → lo ≤ hi → ((k : ℕ) → lo ≤ k → k < hi → f k ≡ pos 0) → sumTo hi f ≡ sumTo lo f
+  gap lo hi h z =
+      let e : hi ≡ lo + (hi - lo) = omega arith in
+      ap (λ (n : ℕ). sumTo n f) e ∙ sum-split lo (hi - lo) f
+      ∙ ap (λ (y : ℤ). sumTo lo f +ℤ y) (sum-none (hi - lo) (λ k. f (lo + k)) (λ k k<. z (lo + k) (le-add-right lo k) (omega arith)))
+      ∙ +ℤ-idr (sumTo lo f)
+
+  sum-within : (lo a b hi : ℕ) → lo ≤ a → a ≤ b → b ≤ hi → ((k : ℕ) → lo ≤ k → k < hi → (a ≤ k → k < b → ⊥) → f k ≡ pos 0) →
+      sumTo (hi - lo) (λ k. f (lo + k)) ≡ sumTo (b - a) (λ k. f (a + k))
+  sum-within lo a b hi l m u z =
+      sym (sum-range lo hi f (omega arith))
+      ∙ ap₂ _-ℤ_ (gap b hi u (λ k c d. z k (omega arith) d (λ x y. omega arith))) (sym (gap lo a l (λ k c d. z k c (omega arith) (λ x y. omega arith))))
+      ∙ sum-range a b f m
+
+-- ---- the window's part in a row is the line of its columns that count
+-- the part of row m that lies in the rows of the window on (i, j)
+unfoldable pub windowRow : Inputs → (i j m : ℕ) → ℤ
+windowRow x i j m =
+    let z = x .source .size in
+    sumTo (z .columns) (λ n. pick (leb (columnGap z j n) (reach (shapeOf (x .window)) (rowGap z i m))) (planeAt (x .source) m n))
+
+module _ (x : Inputs) (i j m : ℕ) (o along r : Overlap) (v : Overlapping (x .source .size .rows) (x .source .shift .down) o) (h : Overlapping (x .source .size .columns) (x .source .shift .right) along) where
+  pub row-total :
+      let columns = x .source .size .columns in
+      let far = reach (shapeOf (x .window)) (rowGap (x .source .size) i m) in
+      j < columns → Clipped along (j - far) (min (suc (j + far)) columns) r →
+      sumTo (r .end - r .first) (lineValue (x .source .plane) (x .source .f) (x .source .g) (lineOf (x .source .size) o r m)) ≡ windowRow x i j m
+  unfolding windowRow
+  row-total j< c =
+      let columns = x .source .size .columns in
+      let far = reach (shapeOf (x .window)) (rowGap (x .source .size) i m) in
+      let lo = j - far in
+      let hi = min (suc (j + far)) columns in
+      let P = planeAt (x .source) m in
+      let left : min lo columns ≡ lo = omega arith in
+      let within : hi ≤ columns = omega arith in
+      sum-cong (r .end - r .first) (lineValue (x .source .plane) (x .source .f) (x .source .g) (lineOf (x .source .size) o r m)) (λ k. P (r .first + k)) (clipped-value (x .source) o along v h m lo hi r c within)
+      ∙ sym (sum-within P lo (r .first) (r .end) hi (c .from) (c .ordered) (c .upto) (clipped-outside (x .source) o along v h m lo hi r c within))
+      ∙ sym (near-range columns j far P ∙ ap (λ (k : ℕ). sumTo (hi - k) (λ q. P (k + q))) left)
 
 -- ---- the window row by row, from its first row on
 pub rows-total : (x : Inputs) (i j : ℕ) →
@@ -80,28 +150,15 @@ direct-fits x i j t hf hg =
     wrap-small (windowSum z (shapeOf (x .window)) (planeAt (x .source)) i j)
     (omega (arith, window-bound z (shapeOf (x .window)) (planeAt (x .source)) (2 ^ 30) i j (plane-bound (x .source) hf hg), mul-le-mul (l .few-rows) (l .few-columns)))
 
--- ---- the loop over the rows from `top` on
-pub from-none : (F : ℕ → ℤ) (top : ℕ) → pos 0 ≡ wrap (pos 0 +ℤ sumTo (top - top) (λ k. F (top + k)))
-from-none F top =
-    let e : top - top ≡ 0 = omega arith in
-    rw e (total-none (pos 0) (λ k. F (top + k)) (record { sfits = omega arith }))
-
-pub from-more : (F : ℕ → ℤ) (s : ℤ) (top m : ℕ) → top ≤ m → s ≡ wrap (pos 0 +ℤ sumTo (m - top) (λ k. F (top + k))) →
-    wrap (s +ℤ F m) ≡ wrap (pos 0 +ℤ sumTo (m + 1 - top) (λ k. F (top + k)))
-from-more F s top m h e =
-    let here : top + (m - top) ≡ m = omega arith in
-    let next : m - top + 1 ≡ m + 1 - top = omega arith in
-    ap (λ (k : ℕ). wrap (s +ℤ F k)) (sym here) ∙ total-more (pos 0) s (λ k. F (top + k)) (m - top) e ∙ ap (λ (n : ℕ). wrap (pos 0 +ℤ sumTo n (λ k. F (top + k)))) next
-
--- after the last row the loop has the direct sum
-pub from-all : (x : Inputs) (i j top bottom m : ℕ) (s : ℤ) →
+-- after the window's last row the loop has the direct sum
+pub rows-done : (x : Inputs) (i j top bottom m : ℕ) (s : ℤ) →
     let h = height (shapeOf (x .window)) in
     i < x .source .size .rows → top ≡ i - h → bottom ≡ min (suc (i + h)) (x .source .size .rows) → m ≡ bottom →
     T (sizeLegal (x .source .size)) → Levels (x .source .f) → Levels (x .source .g) →
-    s ≡ wrap (pos 0 +ℤ sumTo (m - top) (λ k. windowRow x i j (top + k))) → s ≡ directSum x i j
-from-all x i j top bottom m s l et eb em t hf hg e =
+    s ≡ wrap (sumTo (m - top) (λ k. windowRow x i j (top + k))) → s ≡ directSum x i j
+rows-done x i j top bottom m s l et eb em t hf hg e =
     e
-    ∙ ap (λ (n : ℕ). wrap (pos 0 +ℤ sumTo (n - top) (λ k. windowRow x i j (top + k)))) (em ∙ eb)
-    ∙ ap (λ (n : ℕ). wrap (pos 0 +ℤ sumTo (min (suc (i + height (shapeOf (x .window)))) (x .source .size .rows) - n) (λ k. windowRow x i j (n + k)))) et
-    ∙ ap wrap (+ℤ-idl (sumTo _ _) ∙ rows-total x i j l)
+    ∙ ap (λ (n : ℕ). wrap (sumTo (n - top) (λ k. windowRow x i j (top + k)))) (em ∙ eb)
+    ∙ ap (λ (n : ℕ). wrap (sumTo (min (suc (i + height (shapeOf (x .window)))) (x .source .size .rows) - n) (λ k. windowRow x i j (n + k)))) et
+    ∙ ap wrap (rows-total x i j l)
     ∙ direct-fits x i j t hf hg

@@ -1,24 +1,22 @@
--- What the code of the direct sum means: one row of a window, and what its functions ask.
+-- What the functions of the direct sum ask, and the columns of a window's row.
 -- Assumes nothing.
 use mathlib.Core.Path.{_≡_}
-use Prim.Native.Nat.{ℕ, _≤_, _<_}
+use Prim.Native.Nat.{ℕ, suc, _+_, _-_, _≤_, _<_, min}
 use mathlib.Core.List.{List}
-use lib.Dec.{T, leb}
+use lib.Dec.{T}
 use lib.ListN.{length}
 use lib.IntN.{ℤ}
-use Rattle.numbers.specs.Sum.{sumTo, pick}
+use Rattle.numbers.specs.Sum.{dist}
 use Rattle.picture.specs.declared.Cell.{Cell}
 use Rattle.picture.specs.declared.Size.{Size}
 use Rattle.picture.specs.declared.Window.{Window}
-use Rattle.picture.specs.Size.{sizeLegal, cells, rowGap, columnGap}
+use Rattle.picture.specs.Size.{sizeLegal, cells}
 use Rattle.picture.specs.Window.{windowLegal, shapeOf, reach}
-use Rattle.picture.specs.Picture.{Levels, Inputs, planeAt}
-
--- the part of row m that lies in the rows of the window on (i, j)
-unfoldable pub windowRow : Inputs → (i j m : ℕ) → ℤ
-windowRow x i j m =
-    let z = x .source .size in
-    sumTo (z .columns) (λ n. pick (leb (columnGap z j n) (reach (shapeOf (x .window)) (rowGap z i m))) (planeAt (x .source) m n))
+use Rattle.picture.specs.Picture.{Levels}
+use Rattle.planes.specs.declared.Overlap.{Overlap}
+use Rattle.planes.specs.Overlaps.{Clipped}
+use Rattle.change.specs.declared.line.Line.{Line}
+use Rattle.change.specs.Lines.{Span, Lies}
 
 -- pictures of levels, of a legal size, a legal window, and a cell of the picture
 pub record SumAsked (z : Size) (f g : List ℤ) (w : Window) (c : Cell) : Type 0 where
@@ -31,8 +29,24 @@ pub record SumAsked (z : Size) (f g : List ℤ) (w : Window) (c : Cell) : Type 0
   pub row-inside : c .row < z .rows
   pub column-inside : c .column < z .columns
 
--- the same, a row of the picture, and a buffer for the widest row of a window
-pub record RowSumAsked (z : Size) (f g : List ℤ) (w : Window) (c : Cell) (m : ℕ) (buffer : List ℤ) : Type 0 where
-  pub inputs : SumAsked z f g w c
-  pub row : m < z .rows
-  pub room : 255 ≤ length buffer
+-- columns of a picture with a cell's among them, a legal window, and columns that count
+pub record ColumnsAsked (columns : ℕ) (w : Window) (c : Cell) (o : Overlap) : Type 0 where
+  pub window : T (windowLegal w)
+  pub column-inside : c .column < columns
+  pub along : Span columns o
+
+-- r are the columns that count of row m's part in the window on c
+abbrev pub RowColumns : ℕ → Window → Cell → (along : Overlap) → (m : ℕ) → (r : Overlap) → Type 0
+RowColumns columns w c along m r =
+    let far = reach (shapeOf w) (dist (c .row) m) in
+    Clipped along (c .column - far) (min (suc (c .column + far)) columns) r
+
+-- a line of at most 1,024 cells within both pictures
+pub record LineSumAsked (f g : List ℤ) (l : Line) (n : ℕ) : Type 0 where
+  pub few : n ≤ 1024
+  pub lies : Lies f g n l
+
+-- as many levels of f as of g, at most 1,024
+pub record TotalAsked (a b : List ℤ) : Type 0 where
+  pub same : length b ≡ length a
+  pub few : length a ≤ 1024

@@ -1,13 +1,15 @@
-// The direct sum of checked inputs: row by row of the window, each row's part of the plane in a buffer on the stack.
+// The direct sum of checked inputs: row by row of the window, each row's part straight from the levels.
 ghost use mathlib.Core.Path.{_≡_};
-ghost use lib.IntN.{pos, _+ℤ_};
-ghost use lib.ListN.{length, getD};
+ghost use lib.IntN.{_+ℤ_};
 ghost use Rattle.numbers.specs.Sum.{sumTo};
 ghost use Rattle.numbers.specs.Wrap.{wrap};
 ghost use Rattle.picture.specs.Picture.{inputs};
 ghost use Rattle.picture.specs.Direct.{directSum, directCall};
 ghost use Rattle.picture.specs.Answers.{sumOutcome};
-ghost use Rattle.direct.specs.Summing.{windowRow, RowSumAsked, SumAsked};
+ghost use Rattle.change.specs.Lines.{lineValue};
+ghost use Rattle.direct.specs.Summing.{SumAsked, ColumnsAsked, RowColumns, LineSumAsked};
+use change::line;
+use change::line::Line;
 use picture::Cell;
 use picture::Shift;
 use picture::Size;
@@ -16,45 +18,35 @@ use picture::Window;
 use picture::clip;
 use picture::levels;
 use picture::shape;
+use planes::Overlap;
 
-// A sum, with the numbers added; wrapped, so that no bound is asked of them.
-fn total(sum: i64, values: &[i64]) -> i64
-    ensures { λ r. ⌜ r ≡ wrap (sum +ℤ sumTo (length (now (values .entry))) (λ k. getD (now (values .entry)) k (pos 0))) ⌝ }
-{
-    let mut s = sum;
-    let mut k = 0;
-    while k < values.len() {
-        s = machine::wrapping_add(s, values[k]);
-        k += 1;
-    }
-    s
-}
+mod values; // values.rt: the values of a row's cells, summed
 
-// A sum, with the window's part in row m added.
-fn add_row(
-    size: Size,
-    f: &[i16],
-    g: &[i16],
-    window: Window,
-    shift: Shift,
-    plane: u32,
-    cell: Cell,
-    m: usize,
-    sum: i64,
-    buffer: &mut [i64],
-) -> i64
-    requires { ⌜ RowSumAsked size (now f) (now g) window cell m (now buffer) ⌝ }
-    ensures { λ r. ⌜ r ≡ wrap (sum +ℤ windowRow (inputs size (now (f .entry)) (now (g .entry)) window shift plane) (cell .row) (cell .column) m) ⌝ }
+// The columns that count of the window's part in row m; `along` are those of the picture.
+fn columns_of(columns: usize, window: Window, cell: Cell, along: Overlap, m: usize) -> Overlap
+    requires { ⌜ ColumnsAsked columns window cell along ⌝ }
+    ensures { λ r. ⌜ RowColumns columns window cell along m r ⌝ }
 {
-    let columns = size.columns;
     let row = cell.row;
     let column = cell.column;
     let reach = shape::reach(window, clip::distance(row, m));
     let left = clip::low(column, reach);
-    let zero = 0;
-    let n = clip::high(column, reach, columns) - left;
-    planes::part(size, f, g, shift, plane, m, left, &mut buffer[zero..n]);
-    total(sum, &buffer[zero..n])
+    planes::clipped(along, left, clip::high(column, reach, columns))
+}
+
+// A sum, with the n cells of a line added.
+fn add_line(plane: u32, f: &[i16], g: &[i16], line: Line, n: usize, sum: i64) -> i64
+    requires { ⌜ LineSumAsked (now f) (now g) line n ⌝ }
+    ensures { λ r. ⌜ r ≡ wrap (sum +ℤ sumTo n (lineValue plane (now (f .entry)) (now (g .entry)) line)) ⌝ }
+{
+    if !line.counts {
+        return sum;
+    }
+    let lo = line.f;
+    let hi = lo + n;
+    let at = line.g;
+    let until = at + n;
+    machine::wrapping_add(sum, values::total(plane, &f[lo..hi], &g[at..until]))
 }
 
 // The sum of the plane over the window.
@@ -71,14 +63,19 @@ pub fn sum(
     ensures { λ r. ⌜ r ≡ directSum (inputs size (now (f .entry)) (now (g .entry)) window shift plane) (cell .row) (cell .column) ⌝ }
 {
     let rows = size.rows;
+    let columns = size.columns;
     let row = cell.row;
+    let right = shift.right;
+    let counting = planes::overlap_of(rows, shift.down);
+    let along = planes::overlap_of(columns, right);
     let height = shape::height(window);
     let bottom = clip::high(row, height, rows);
-    let mut buffer = [0i64; 255];
     let mut s = 0i64;
     let mut m = clip::low(row, height);
     while m < bottom {
-        s = add_row(size, f, g, window, shift, plane, cell, m, s, &mut buffer);
+        let part = columns_of(columns, window, cell, along, m);
+        let line = line::line_of(size, counting, part, m);
+        s = add_line(plane, f, g, line, part.end - part.first, s);
         m += 1;
     }
     s

@@ -1,1 +1,2 @@
 mod RowSums
+pub mod LevelRows

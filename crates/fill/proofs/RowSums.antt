@@ -17,7 +17,7 @@ use Rattle.numbers.proofs.Grids.{getD-tabulate}
 use Rattle.numbers.proofs.Lines.{Lines, lines-none, lines-next, tabulated-length}
 use Rattle.numbers.proofs.Sums.{sum-suc, sum-cong, sum-bound}
 use Rattle.numbers.proofs.Wraps.{wrap-add-right, wrap-small}
-use Rattle.numbers.proofs.Writes.{at, part-before, part-within}
+use Rattle.numbers.proofs.Writes.{at, part-before, part-within, part-length}
 use Rattle.cumulative.specs.Table.{tableAt}
 use Rattle.fill.specs.Fill.{rowFrom, nextNumber, FirstRow, NextRow}
 
@@ -25,28 +25,36 @@ use Rattle.fill.specs.Fill.{rowFrom, nextNumber, FirstRow, NextRow}
 pub next-number : (row : ℕ → ℤ) (j : ℕ) (x y s v : ℤ) → x ≡ y → s ≡ wrap (sumTo (suc j) row) → v ≡ wrap (x +ℤ s) → v ≡ nextNumber y row j
 next-number row j x y s v ex es ev = rw (ev, ex, es) (wrap-add-right y (sumTo (suc j) row))
 
--- ---- a loop that sums the row at `start` in place: n of its numbers are the table's, and all else is as it was
-pub record Written (columns start : ℕ) (old now : List ℤ) (n : ℕ) : Type 0 where
+-- ---- a loop that writes the row at `start`: n of its numbers are the table's, and all else is as it was
+pub record Written (columns start : ℕ) (row : ℕ → ℤ) (old now : List ℤ) (n : ℕ) : Type 0 where
   pub size : length now ≡ length old
   pub kept : (k : ℕ) → k < start → at now k ≡ at old k
-  pub done : (j : ℕ) → j < n → at now (start + j) ≡ nextNumber (at old (start - columns + j)) (rowFrom old start) j
+  pub done : (j : ℕ) → j < n → at now (start + j) ≡ nextNumber (at old (start - columns + j)) row j
   pub rest : (j : ℕ) → n ≤ j → at now (start + j) ≡ at old (start + j)
 
-pub written-none : (columns start : ℕ) (old : List ℤ) → Written columns start old old 0
-written-none columns start old = record { size = refl; kept = λ k h. refl; done = λ j h. absurd (omega arith); rest = λ j h. refl }
+pub written-none : (columns start : ℕ) (row : ℕ → ℤ) (old : List ℤ) → Written columns start row old old 0
+written-none columns start row old = record { size = refl; kept = λ k h. refl; done = λ j h. absurd (omega arith); rest = λ j h. refl }
 
-module _ {columns start n : ℕ} {old now : List ℤ} (w : Written columns start old now n) (v : ℤ) (room : start + n < length old) (e : v ≡ nextNumber (at old (start - columns + n)) (rowFrom old start) n) where
-  done-by : (j : ℕ) → j < n + 1 → Dec (j ≡ n) → at (set now (start + n) v) (start + j) ≡ nextNumber (at old (start - columns + j)) (rowFrom old start) j
+module _ {columns start n : ℕ} {row : ℕ → ℤ} {old now : List ℤ} (w : Written columns start row old now n) (v : ℤ) (room : start + n < length old) (e : v ≡ nextNumber (at old (start - columns + n)) row n) where
+  done-by : (j : ℕ) → j < n + 1 → Dec (j ≡ n) → at (set now (start + n) v) (start + j) ≡ nextNumber (at old (start - columns + j)) row j
   done-by j h (yes p) = rw p (getD-set-same now (start + n) v (pos 0) (omega (arith, w .size)) ∙ e)
   done-by j h (no p) = getD-set-other now (start + n) (start + j) v (pos 0) (λ q. p (omega arith)) ∙ w .done j (omega arith)
 
-  pub written-more : Written columns start old (set now (start + n) v) (n + 1)
+  pub written-more : Written columns start row old (set now (start + n) v) (n + 1)
   written-more = record {
     size = length-set now (start + n) v ∙ w .size;
     kept = λ k h. getD-set-other now (start + n) k v (pos 0) (λ p. omega arith) ∙ w .kept k h;
     done = λ j h. done-by j h (ℕ-discrete j n);
     rest = λ j h. getD-set-other now (start + n) (start + j) v (pos 0) (λ p. omega arith) ∙ w .rest j (omega arith);
   }
+
+-- the same of an equal row
+pub row-as : (columns start : ℕ) (row same : ℕ → ℤ) (old new : List ℤ) → NextRow columns start row old new → ((q : ℕ) → q < columns → row q ≡ same q) → NextRow columns start same old new
+row-as columns start row same old new w e = record {
+  size = w .size;
+  kept = w .kept;
+  written = λ j h. w .written j h ∙ ap (λ (z : ℤ). wrap (at old (start - columns + j) +ℤ z)) (sum-cong (suc j) row same (λ q k. e q (omega arith)));
+}
 
 -- what stands above row i at column j: T of the row above, and 0 above the first
 abbrev pub aboveRow : (ℕ → ℕ → ℤ) → (i j : ℕ) → ℤ
@@ -78,10 +86,10 @@ unfolding tableAt
 above-next P i j = refl
 
 -- ---- rows of the table, from the plane's rows in their place
-module _ (P : ℕ → ℕ → ℤ) (small : (m n : ℕ) → natAbs (P m n) ≤ 2 ^ 30) (c : ℕ) (few : c ≤ 1024) (row new : List ℤ) where
-  row-at : (i q : ℕ) → row ≡ tabulate c (λ k. P i (0 + k)) → q < c → at row q ≡ P i q
-  row-at i q e h = ap (λ (m : List ℤ). at m q) e ∙ getD-tabulate c q (λ x. P i (0 + x)) (pos 0) h ∙ ap (P i) (zero-add q)
+row-at : (P : ℕ → ℕ → ℤ) (c : ℕ) (row : List ℤ) (i q : ℕ) → row ≡ tabulate c (λ k. P i (0 + k)) → q < c → at row q ≡ P i q
+row-at P c row i q e h = ap (λ (m : List ℤ). at m q) e ∙ getD-tabulate c q (λ x. P i (0 + x)) (pos 0) h ∙ ap (P i) (zero-add q)
 
+module _ (P : ℕ → ℕ → ℤ) (small : (m n : ℕ) → natAbs (P m n) ≤ 2 ^ 30) (c : ℕ) (few : c ≤ 1024) (row new : List ℤ) where
   pub first-line : (behind : List ℤ) → row ≡ tabulate c (λ k. P 0 (0 + k)) → FirstRow c (row ++ behind) new → Lines (tableAt P) c new 1
   first-line behind e w =
       lines-next (tableAt P) c new new 0 0 (lines-none _ _ _) (sym (zero-mul c)) (λ k h. refl)
@@ -89,36 +97,42 @@ module _ (P : ℕ → ℕ → ℤ) (small : (m n : ℕ) → natAbs (P m n) ≤ 2
       ∙ next-table P small 0 x (omega arith) (omega arith) (pos 0) (at (row ++ behind)) (above-none P x) (λ q k. put-first q (omega arith)))
     where
       put-first : (q : ℕ) → q < c → at (row ++ behind) q ≡ P 0 q
-      put-first q h = List·getD-append row behind (pos 0) q (omega (arith, tabulated-length _ _ _ e)) ∙ row-at 0 q e h
+      put-first q h = List·getD-append row behind (pos 0) q (omega (arith, tabulated-length _ _ _ e)) ∙ row-at P c row 0 q e h
 
-  -- row i of the plane is put in at `start`
-  module _ (i start : ℕ) (old : List ℤ) (room : start + c ≤ length old) (e : row ≡ tabulate c (λ k. P i (0 + k))) where
-    abbrev put : List ℤ
-    put = putMid start (start + c - start) old row
+-- row i of the plane is put in at `start`, and summed there
+module _ (P : ℕ → ℕ → ℤ) (c i start : ℕ) (row old new : List ℤ) (above : c ≤ start) (room : start + c ≤ length old) (e : row ≡ tabulate c (λ k. P i (0 + k))) where
+  abbrev put : List ℤ
+  put = putMid start (start + c - start) old row
 
-    put-size : length row ≡ start + c - start
-    put-size = tabulated-length _ _ _ e ∙ omega arith
+  put-size : length row ≡ start + c - start
+  put-size = tabulated-length _ _ _ e ∙ omega arith
 
-    put-before : (k : ℕ) → k < start → at put k ≡ at old k
-    put-before = part-before start (start + c) old row (omega arith) room put-size
+  put-before : (k : ℕ) → k < start → at put k ≡ at old k
+  put-before = part-before start (start + c) old row (omega arith) room put-size
 
-    put-row : (q : ℕ) → q < c → rowFrom put start q ≡ P i q
-    put-row q h = part-within start (start + c) old row (omega arith) room put-size (start + q) (omega arith) (omega arith) ∙ ap (at row) place ∙ row-at i q e h
-      where
-        place : start + q - start ≡ q
-        place = omega arith
+  put-row : (q : ℕ) → q < c → rowFrom put start q ≡ P i q
+  put-row q h = part-within start (start + c) old row (omega arith) room put-size (start + q) (omega arith) (omega arith) ∙ ap (at row) place ∙ row-at P c row i q e h
+    where
+      place : start + q - start ≡ q
+      place = omega arith
 
-  pub next-line : (i start : ℕ) (old : List ℤ) (room : start + c ≤ length old) (e : row ≡ tabulate c (λ k. P i (0 + k))) → 1 ≤ i → i < 256 → start ≡ i * c
-      → Lines (tableAt P) c old i → NextRow c start (put i start old room e) new → Lines (tableAt P) c new (i + 1)
-  next-line zero start old room e hi hr es u w = absurd (omega arith)
-  next-line (suc m) start old room e hi hr es u w =
-      let now = put (suc m) start old room e in
-      let before = put-before (suc m) start old room e in
-      lines-next (tableAt P) c old new (suc m) start u es (λ k h. w .kept k h ∙ before k h)
+  pub put-in : NextRow c start (rowFrom put start) put new → NextRow c start (P i) old new
+  put-in w =
+      let v = row-as c start (rowFrom put start) (P i) put new w put-row in
+      record {
+        size = v .size ∙ part-length start (start + c) old row (omega arith) room put-size;
+        kept = λ k h. v .kept k h ∙ put-before k h;
+        written = λ j h. v .written j h ∙ ap (λ (z : ℤ). nextNumber z (P i) j) (put-before (start - c + j) (omega arith));
+      }
+
+-- ---- one row of the table more
+module _ (P : ℕ → ℕ → ℤ) (small : (m n : ℕ) → natAbs (P m n) ≤ 2 ^ 30) (c : ℕ) (few : c ≤ 1024) where
+  pub next-line : (i start : ℕ) (old new : List ℤ) → 1 ≤ i → i < 256 → start ≡ i * c → Lines (tableAt P) c old i → NextRow c start (P i) old new → Lines (tableAt P) c new (i + 1)
+  next-line zero start old new hi hr es u w = absurd (omega arith)
+  next-line (suc m) start old new hi hr es u w =
+      lines-next (tableAt P) c old new (suc m) start u es (w .kept)
       (λ x h. w .written x h
-      ∙ next-table P small (suc m) x hr (omega arith) (at now (start - c + x)) (rowFrom now start)
-      (before (start - c + x) (omega (arith, es, suc-mul m c)) ∙ ap (at old) (place x) ∙ u .each m x (omega arith) h ∙ above-next P m x)
-      (λ q k. put-row (suc m) start old room e q (omega arith)))
+      ∙ next-table P small (suc m) x hr (omega arith) (at old (start - c + x)) (P (suc m)) (ap (at old) (place x) ∙ u .each m x (omega arith) h ∙ above-next P m x) (λ q k. refl))
     where
       place : (x : ℕ) → start - c + x ≡ m * c + x
       place x = omega (arith, es, suc-mul m c)

@@ -34,11 +34,19 @@ pub record RowRoom (columns start : ℕ) (t : List ℤ) : Type 0 where
   pub above : columns ≤ start
   pub room : start + columns ≤ length t
 
--- the row at `start` was the plane's and is the table's, and all before it is as it was
-pub record NextRow (columns start : ℕ) (old new : List ℤ) : Type 0 where
+-- the table's row at `start` was written of the plane's row and the row above, and all before it is as it was
+pub record NextRow (columns start : ℕ) (row : ℕ → ℤ) (old new : List ℤ) : Type 0 where
   pub size : length new ≡ length old
   pub kept : (k : ℕ) → k < start → getD new k (pos 0) ≡ getD old k (pos 0)
-  pub written : (j : ℕ) → j < columns → getD new (start + j) (pos 0) ≡ nextNumber (getD old (start - columns + j) (pos 0)) (rowFrom old start) j
+  pub written : (j : ℕ) → j < columns → getD new (start + j) (pos 0) ≡ nextNumber (getD old (start - columns + j) (pos 0)) row j
+
+-- pictures of a legal size, a row of it, and room for the table's row below another
+pub record RowAsked (z : Size) (f g : List ℤ) (i start : ℕ) (t : List ℤ) : Type 0 where
+  pub legal : T (sizeLegal z)
+  pub length-f : length f ≡ cells z
+  pub length-g : length g ≡ cells z
+  pub inside : i < z .rows
+  pub room : RowRoom (z .columns) start t
 
 -- the first row was the plane's and is the table's
 pub record FirstRow (columns : ℕ) (old new : List ℤ) : Type 0 where

@@ -1,18 +1,18 @@
 -- The places that count under a shift, and a plane's values along one row.
 -- Assumes nothing.
 use mathlib.Core.Path.{_≡_, refl, sym, _∙_, ap}
-use Prim.Native.Nat.{ℕ, zero, suc, _+_, _-_, _*_, _≤_, _<_}
+use Prim.Native.Nat.{ℕ, zero, suc, _+_, _-_, _≤_, _<_, min, max}
 use native.Mathlib.Omega.{arith}
 use native.Mathlib.Decide.{decLt}
 use mathlib.Core.Bool.{Bool, true, false, _&&_, true≢false}
-use lib.Dec.{T, leb, ltb, leb→le, ltb→lt, le→leb, lt→ltb}
+use lib.Dec.{leb, ltb, leb→le, ltb→lt, le→leb, lt→ltb}
 use lib.IntN.{ℤ, pos, negsuc, natAbs, subℕ, _+ℤ_}
 use lib.Signed.{ltZ}
 use Rattle.numbers.proofs.Tests.{and-left, and-right, and-both, same-test, off}
 use Rattle.numbers.proofs.Wraps.{sub-low, sub-high}
 use Rattle.planes.specs.declared.Overlap.{Overlap}
 use Rattle.picture.specs.Size.{inRange}
-use Rattle.planes.specs.Overlaps.{Overlapping}
+use Rattle.planes.specs.Overlaps.{Overlapping, Clipped}
 
 abbrev overlap : (first end other : ℕ) → Overlap
 overlap first end other = record { first = first; end = end; other = other }
@@ -83,3 +83,33 @@ overlap-behind n (pos d) h t = record {
   place = λ k a b. omega arith;
 }
 overlap-behind n (negsuc d) h t = absurd (true≢false t)
+
+-- ---- the two cases of clipping: no place from lo up to hi counts, or those from `start` up to `end` do
+module _ (o : Overlap) (lo hi start end : ℕ) (s : start ≡ max lo (o .first)) (e : end ≡ min hi (o .end)) where
+  counted : ℕ → Bool
+  counted k = leb (o .first) k && ltb k (o .end)
+
+  pub clip-none : lo ≤ hi → end ≤ start → Clipped o lo hi (overlap lo lo 0)
+  unfolding counted
+  clip-none h l = record {
+    from = omega arith;
+    ordered = omega arith;
+    upto = omega arith;
+    other-within = omega arith;
+    counts = λ k a b. off (counted k) (λ t. omega (arith, leb→le (o .first) k (and-left (leb (o .first) k) (ltb k (o .end)) t), ltb→lt k (o .end) (and-right (leb (o .first) k) (ltb k (o .end)) t)))
+        ∙ sym (off (leb lo k && ltb k lo) (λ t. omega (arith, ltb→lt k lo (and-right (leb lo k) (ltb k lo) t))));
+    place = λ k a b. absurd (omega arith);
+  }
+
+  pub clip-some : start < end → Clipped o lo hi (overlap start end (o .other + (start - o .first)))
+  unfolding counted
+  clip-some l = record {
+    from = omega arith;
+    ordered = omega arith;
+    upto = omega arith;
+    other-within = omega arith;
+    counts = λ k a b. same-test (counted k) (leb start k && ltb k end)
+        (λ t. and-both (leb start k) (ltb k end) (le→leb start k (omega (arith, leb→le (o .first) k (and-left (leb (o .first) k) (ltb k (o .end)) t)))) (lt→ltb k end (omega (arith, ltb→lt k (o .end) (and-right (leb (o .first) k) (ltb k (o .end)) t)))))
+        (λ t. and-both (leb (o .first) k) (ltb k (o .end)) (le→leb (o .first) k (omega (arith, leb→le start k (and-left (leb start k) (ltb k end) t)))) (lt→ltb k (o .end) (omega (arith, ltb→lt k end (and-right (leb start k) (ltb k end) t)))));
+    place = λ k a b. omega arith;
+  }

@@ -1,19 +1,19 @@
 -- A plane's values along a row: plane by plane, where all cells count, and where some do not.
 -- Assumes nothing.
-use mathlib.Core.Path.{_≡_, refl, sym, _∙_, ap}
-use Prim.Native.Nat.{ℕ, zero, suc, _+_, _-_, _*_, _≤_, _<_, min, max}
+use mathlib.Core.Path.{_≡_, refl, sym, _∙_, ap, ap₂}
+use Prim.Native.Nat.{ℕ, zero, suc, _+_, _-_, _*_, _≤_, _<_}
 use native.Mathlib.Omega.{arith}
 use native.Mathlib.Decide.{decLt}
-use native.Mathlib.Nat.{le-add-right, le-of-lt, mul-le-mul-right}
-use mathlib.Core.Bool.{Bool, true, false, _&&_}
+use native.Mathlib.Nat.{le-add-right, mul-le-mul-right}
+use mathlib.Core.Bool.{Bool, _&&_}
 use mathlib.Core.List.{List}
 use lib.Dec.{T, leb, ltb, leb→le, ltb→lt, le→leb, lt→ltb}
 use lib.ListN.{length, take, drop}
 use lib.IntN.{ℤ, pos, natAbs, _+ℤ_, _*ℤ_}
 use Rattle.numbers.specs.Sum.{pick}
 use Rattle.numbers.specs.Grid.{tabulate}
-use Rattle.numbers.proofs.Tests.{and-left, and-right, and-both, off}
-use Rattle.numbers.proofs.Grids.{tabulate-cong, place-inside}
+use Rattle.numbers.proofs.Tests.{and-left, and-right, and-both}
+use Rattle.numbers.proofs.Grids.{tabulate-cong}
 use Rattle.numbers.proofs.Sums.{pick-yes, pick-no}
 use borrow.Rule.Slice.PartMut.{putMid}
 use Rattle.numbers.proofs.Writes.{at, is-tabulate, tabulate-at, part-before, part-within, part-after, part-length, slice-at, slice-length}
@@ -21,7 +21,7 @@ use Rattle.picture.specs.declared.Size.{Size}
 use Rattle.planes.specs.declared.Overlap.{Overlap}
 use Rattle.picture.specs.Size.{inRange, inside, cells}
 use Rattle.picture.specs.Picture.{Source, planeValue, counts, planeAt, levelOf, otherOf}
-use Rattle.planes.specs.Overlaps.{Overlapping, paddedValue, PaddedAsked, rowValue}
+use Rattle.planes.specs.Overlaps.{Overlapping, Clipped, paddedValue, rowValue}
 
 -- ---- the planes, as code tells them apart
 pub plane-0 : (p : ℕ) (x y : ℤ) → p ≡ 0 → planeValue p x y ≡ pos 1
@@ -110,119 +110,77 @@ module _ (p : ℕ) (a b out before behind within : List ℤ) (lo m₁ m₂ m₃ 
       is-tabulate (putMid lo (hi - lo) twice within) (length out) (paddedValue p a b lo)
       (part-length lo hi twice within (omega arith) (omega (arith, length-twice)) l₃ ∙ length-twice) padded-at
 
--- ---- places of g, on plain numbers
-place-end : (from end other start stop n : ℕ) → from ≤ start → start ≤ stop → stop ≤ end → other + (end - from) ≤ n → other + (start - from) + (stop - start) ≤ n
-place-end from end other start stop n a b c h = omega arith
+-- ---- the part of a row from column `first` on, of which the columns of r count
+module _ (p : ℕ) (F G : List ℤ) (o r : Overlap) (first n : ℕ) (c : Clipped o first (first + n) r) (part : first + n ≤ length F) (in-g : o .other + (o .end - o .first) ≤ length G) where
+  abbrev until : ℕ
+  until = r .other + (r .end - r .first)
 
-place-of : (from other first start k : ℕ) → from ≤ start → first ≤ start → start ≤ first + k → other + (start - from) + (k - (start - first)) ≡ other + (first + k - from)
-place-of from other first start k a b c = omega arith
+  abbrev some-f : List ℤ
+  some-f = take (r .end - r .first) (drop (r .first) F)
 
-place-in : (place first start stop k : ℕ) → first ≤ start → start ≤ first + k → first + k < stop → k - (start - first) < place + (stop - start) - place
-place-in place first start stop k a b c = omega arith
+  abbrev some-g : List ℤ
+  some-g = take (until - r .other) (drop (r .other) G)
 
--- ---- the part of a row from column `first` on
-module _ (p : ℕ) (F G : List ℤ) (o : Overlap) (first n start stop : ℕ)
-    (s : start ≡ max first (o .first)) (t : stop ≡ min (first + n) (o .end)) where
-  -- it meets no cell that counts
-  row-outside : stop ≤ start → (k : ℕ) → k < n → rowValue p F G o (first + k) ≡ pos 0
-  unfolding rowValue
-  row-outside h k k< =
-      let a = leb (o .first) (first + k) in
-      let b = ltb (first + k) (o .end) in
-      pick-no (a && b) _ (λ u. omega (arith, leb→le (o .first) (first + k) (and-left a b u), ltb→lt (first + k) (o .end) (and-right a b u)))
+  in-f : r .end ≤ length F
+  in-f = omega (arith, c .upto)
 
-  pub row-none : (m : ℕ) (out : List ℤ) → stop ≤ start → out ≡ tabulate m (λ k. pos 0) → length out ≡ n → out ≡ tabulate n (λ k. rowValue p F G o (first + k))
-  row-none m out h e l =
-      is-tabulate out n (λ k. rowValue p F G o (first + k)) l
-      (λ k k<. tabulate-at out m (λ k. pos 0) e k (omega arith) ∙ sym (row-outside h k k<))
+  until≤ : until ≤ length G
+  until≤ = omega (arith, c .other-within)
 
-  -- it meets those from start up to stop
-  module _ (in-f : o .end ≤ length F) (in-g : o .other + (o .end - o .first) ≤ length G) (h : start < stop) where
-    from≤ : o .first ≤ start
-    from≤ = omega arith
+  length-f : length some-f ≡ r .end - r .first
+  length-f = slice-length (r .first) (r .end) F (c .ordered) in-f
 
-    first≤ : first ≤ start
-    first≤ = omega arith
+  row-part-at : (k : ℕ) → k < n → paddedValue p some-f some-g (r .first - first) k ≡ rowValue p F G o (first + k)
+  unfolding paddedValue rowValue
+  row-part-at k k< = go (decLt (first + k) (r .first)) (decLt (first + k) (r .end))
+    where
+      lo : ℕ
+      lo = r .first - first
 
-    stop≤ : stop ≤ o .end
-    stop≤ = omega arith
+      this : Bool
+      this = leb lo k && ltb k (lo + length some-f)
 
-    abbrev place : ℕ
-    place = o .other + (start - o .first)
+      that : Bool
+      that = leb (o .first) (first + k) && ltb (first + k) (o .end)
 
-    abbrev after : ℕ
-    after = place + (stop - start)
+      clip : that ≡ (leb (r .first) (first + k) && ltb (first + k) (r .end))
+      clip = c .counts (first + k) (le-add-right first k) (omega arith)
 
-    abbrev some-f : List ℤ
-    some-f = take (stop - start) (drop start F)
+      x : ℤ
+      x = planeValue p (at some-f (k - lo)) (at some-g (k - lo))
 
-    abbrev some-g : List ℤ
-    some-g = take (after - place) (drop place G)
+      y : ℤ
+      y = planeValue p (at F (first + k)) (at G (o .other + (first + k - o .first)))
 
-    row-inside : (k : ℕ) → k < n → paddedValue p some-f some-g (start - first) k ≡ rowValue p F G o (first + k)
-    unfolding paddedValue rowValue
-    row-inside k k< = go (decLt (first + k) start) (decLt (first + k) stop)
-      where
-        lo : ℕ
-        lo = start - first
+      outside : (r .first ≤ first + k → first + k < r .end → ⊥) → pick this x ≡ pick that y
+      outside never =
+          pick-no this x (λ u. never (omega (arith, c .from, leb→le lo k (and-left (leb lo k) (ltb k (lo + length some-f)) u))) (omega (arith, length-f, c .from, ltb→lt k (lo + length some-f) (and-right (leb lo k) (ltb k (lo + length some-f)) u))))
+          ∙ sym (pick-no that y (λ u. inside (rw clip at u)))
+        where
+          inside : T (leb (r .first) (first + k) && ltb (first + k) (r .end)) → ⊥
+          inside u = never (leb→le (r .first) (first + k) (and-left (leb (r .first) (first + k)) (ltb (first + k) (r .end)) u)) (ltb→lt (first + k) (r .end) (and-right (leb (r .first) (first + k)) (ltb (first + k) (r .end)) u))
 
-        length-f : length some-f ≡ stop - start
-        length-f = slice-length start stop F (omega arith) (omega arith)
+      same-f : r .first ≤ first + k → first + k < r .end → at some-f (k - lo) ≡ at F (first + k)
+      same-f a b =
+          let e : r .first + (k - lo) ≡ first + k = omega (arith, c .from) in
+          slice-at (r .first) (r .end) F (c .ordered) in-f (k - lo) (omega (arith, c .from)) ∙ ap (at F) e
 
-        this : Bool
-        this = leb lo k && ltb k (lo + length some-f)
+      same-g : r .first ≤ first + k → first + k < r .end → at some-g (k - lo) ≡ at G (o .other + (first + k - o .first))
+      same-g a b =
+          let e : r .other + (k - lo) ≡ r .other + (first + k - r .first) = omega (arith, c .from) in
+          slice-at (r .other) until G (le-add-right (r .other) (r .end - r .first)) until≤ (k - lo) (omega (arith, c .from))
+          ∙ ap (at G) (e ∙ sym (c .place (first + k) a b))
 
-        that : Bool
-        that = leb (o .first) (first + k) && ltb (first + k) (o .end)
+      go : Dec (first + k < r .first) → Dec (first + k < r .end) → pick this x ≡ pick that y
+      go (yes a) d = outside (λ u v. omega arith)
+      go (no a) (no b) = outside (λ u v. omega arith)
+      go (no a) (yes b) =
+          pick-yes this x (and-both (leb lo k) (ltb k (lo + length some-f)) (le→leb lo k (omega arith)) (lt→ltb k (lo + length some-f) (omega (arith, length-f, c .from))))
+          ∙ ap₂ (planeValue p) (same-f (omega arith) b) (same-g (omega arith) b)
+          ∙ sym (pick-yes that y (rw clip (and-both (leb (r .first) (first + k)) (ltb (first + k) (r .end)) (le→leb (r .first) (first + k) (omega arith)) (lt→ltb (first + k) (r .end) b))))
 
-        x : ℤ
-        x = planeValue p (at some-f (k - lo)) (at some-g (k - lo))
-
-        y : ℤ
-        y = planeValue p (at F (first + k)) (at G (o .other + (first + k - o .first)))
-
-        outside : (start ≤ first + k → first + k < stop → ⊥) → pick this x ≡ pick that y
-        outside never =
-            pick-no this x (λ u. never (omega (arith, leb→le lo k (and-left (leb lo k) (ltb k (lo + length some-f)) u))) (omega (arith, length-f, ltb→lt k (lo + length some-f) (and-right (leb lo k) (ltb k (lo + length some-f)) u))))
-            ∙ sym (pick-no that y (λ u. never (omega (arith, leb→le (o .first) (first + k) (and-left (leb (o .first) (first + k)) (ltb (first + k) (o .end)) u))) (omega (arith, ltb→lt (first + k) (o .end) (and-right (leb (o .first) (first + k)) (ltb (first + k) (o .end)) u)))))
-
-        k-in : start ≤ first + k → first + k < stop → k - lo < after - place
-        k-in a b = place-in place first start stop k first≤ a b
-
-        same-f : start ≤ first + k → first + k < stop → at some-f (k - lo) ≡ at F (first + k)
-        same-f a b =
-            let e : start + (k - lo) ≡ first + k = omega arith in
-            slice-at start stop F (omega arith) (omega arith) (k - lo) (omega arith) ∙ ap (at F) e
-
-        same-g : start ≤ first + k → first + k < stop → at some-g (k - lo) ≡ at G (o .other + (first + k - o .first))
-        same-g a b =
-            slice-at place after G (le-add-right place (stop - start)) (place-end (o .first) (o .end) (o .other) start stop (length G) from≤ (le-of-lt h) stop≤ in-g) (k - lo) (k-in a b)
-            ∙ ap (at G) (place-of (o .first) (o .other) first start k from≤ first≤ a)
-
-        go : Dec (first + k < start) → Dec (first + k < stop) → pick this x ≡ pick that y
-        go (yes a) d = outside (λ u v. omega arith)
-        go (no a) (no b) = outside (λ u v. omega arith)
-        go (no a) (yes b) =
-            pick-yes this x (and-both (leb lo k) (ltb k (lo + length some-f)) (le→leb lo k (omega arith)) (lt→ltb k (lo + length some-f) (omega (arith, length-f))))
-            ∙ ap (λ (v : ℤ). planeValue p v (at some-g (k - lo))) (same-f (omega arith) b)
-            ∙ ap (λ (v : ℤ). planeValue p (at F (first + k)) v) (same-g (omega arith) b)
-            ∙ sym (pick-yes that y (and-both (leb (o .first) (first + k)) (ltb (first + k) (o .end)) (le→leb (o .first) (first + k) (omega arith)) (lt→ltb (first + k) (o .end) (omega arith))))
-
-    -- and what is written there fits
-    pub row-some-asked : (out : List ℤ) → length out ≡ n → PaddedAsked some-f some-g (start - first) out
-    row-some-asked out e =
-        let length-f : length some-f ≡ stop - start = slice-length start stop F (le-of-lt h) (omega (arith, stop≤)) in
-        let length-g = slice-length place after G (le-add-right place (stop - start)) (place-end (o .first) (o .end) (o .other) start stop (length G) from≤ (le-of-lt h) stop≤ in-g) in
-        record { same = length-g ∙ span ∙ sym length-f; room = room length-f }
-      where
-        span : after - place ≡ stop - start
-        span = omega arith
-
-        room : length some-f ≡ stop - start → start - first + length some-f ≤ length out
-        room l = omega (arith, first≤, e, t, h)
-
-    pub row-some : (out : List ℤ) → out ≡ tabulate n (paddedValue p some-f some-g (start - first)) → out ≡ tabulate n (λ k. rowValue p F G o (first + k))
-    row-some out e = e ∙ tabulate-cong n (paddedValue p some-f some-g (start - first)) (λ k. rowValue p F G o (first + k)) row-inside
+  pub row-part-done : (out : List ℤ) → out ≡ tabulate n (paddedValue p some-f some-g (r .first - first)) → out ≡ tabulate n (λ k. rowValue p F G o (first + k))
+  row-part-done out e = e ∙ tabulate-cong n (paddedValue p some-f some-g (r .first - first)) (λ k. rowValue p F G o (first + k)) row-part-at
 
 -- a row that there is ends within the picture
 pub row-end : (m rows columns : ℕ) → m < rows → m * columns + columns ≤ rows * columns

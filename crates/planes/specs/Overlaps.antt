@@ -1,7 +1,7 @@
 -- What the code of a plane's row means: the places that count along one side, and the values along one row. (The planes themselves are in `Picture`.)
 -- Assumes nothing.
 use mathlib.Core.Path.{_≡_}
-use Prim.Native.Nat.{ℕ, _+_, _-_, _≤_, _<_}
+use Prim.Native.Nat.{ℕ, _+_, _-_, _^_, _≤_, _<_}
 use mathlib.Core.Bool.{_&&_}
 use mathlib.Core.List.{List}
 use lib.Dec.{T, leb, ltb}
@@ -20,6 +20,20 @@ pub record Overlapping (n : ℕ) (d : ℤ) (o : Overlap) : Type 0 where
   pub other-within : o .other + (o .end - o .first) ≤ n
   pub counts : (k : ℕ) → k < n → inRange n (pos k +ℤ d) ≡ (leb (o .first) k && ltb k (o .end))
   pub place : (k : ℕ) → o .first ≤ k → k < o .end → natAbs (pos k +ℤ d) ≡ o .other + (k - o .first)
+
+-- what clipping asks: that lo is not past hi, and places of g that are numbers of 64 bits
+pub record ClipAsked (o : Overlap) (lo hi : ℕ) : Type 0 where
+  pub ordered : lo ≤ hi
+  pub others : o .other + (o .end - o .first) < 2 ^ 64
+
+-- of the places from lo up to hi those that count in o are those from `first` up to `end`, and they have the same places of g
+pub record Clipped (o : Overlap) (lo hi : ℕ) (r : Overlap) : Type 0 where
+  pub from : lo ≤ r .first
+  pub ordered : r .first ≤ r .end
+  pub upto : r .end ≤ hi
+  pub other-within : r .other + (r .end - r .first) ≤ o .other + (o .end - o .first)
+  pub counts : (k : ℕ) → lo ≤ k → k < hi → (leb (o .first) k && ltb k (o .end)) ≡ (leb (r .first) k && ltb k (r .end))
+  pub place : (k : ℕ) → r .first ≤ k → k < r .end → o .other + (k - o .first) ≡ r .other + (k - r .first)
 
 -- the value of plane p at column n of a row with levels F, where G is the row of g that it meets
 unfoldable pub rowValue : ℕ → (F G : List ℤ) → Overlap → ℕ → ℤ

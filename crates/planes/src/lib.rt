@@ -6,7 +6,7 @@ ghost use lib.IntN.{pos, _*ℤ_};
 ghost use lib.ListN.{length, getD};
 ghost use Rattle.numbers.specs.Grid.{tabulate};
 ghost use Rattle.picture.specs.Picture.{source, planeAt, planeValue};
-ghost use Rattle.planes.specs.Overlaps.{Overlapping, paddedValue, PaddedAsked, rowValue, RowAsked, PartAsked};
+ghost use Rattle.planes.specs.Overlaps.{Overlapping, ClipAsked, Clipped, paddedValue, PaddedAsked, rowValue, RowAsked, PartAsked};
 use picture::Shift;
 use picture::Size;
 
@@ -41,6 +41,40 @@ pub fn overlap_of(n: usize, by: i32) -> Overlap
         first: 0,
         end: n - far,
         other: far,
+    }
+}
+
+fn larger(a: usize, b: usize) -> usize
+    ensures { λ r. ⌜ r ≡ max a b ⌝ }
+{
+    if a < b { b } else { a }
+}
+
+fn smaller(a: usize, b: usize) -> usize
+    ensures { λ r. ⌜ r ≡ min a b ⌝ }
+{
+    if a < b { a } else { b }
+}
+
+// The places from lo up to hi among those that count.
+pub fn clipped(counting: Overlap, lo: usize, hi: usize) -> Overlap
+    requires { ⌜ ClipAsked counting lo hi ⌝ }
+    ensures { λ r. ⌜ Clipped counting lo hi r ⌝ }
+{
+    let first = counting.first;
+    let start = larger(lo, first);
+    let end = smaller(hi, counting.end);
+    if end <= start {
+        return Overlap {
+            first: lo,
+            end: lo,
+            other: 0,
+        };
+    }
+    Overlap {
+        first: start,
+        end,
+        other: counting.other + (start - first),
     }
 }
 
@@ -120,18 +154,6 @@ fn padded(plane: u32, a: &[i16], b: &[i16], lo: usize, out: &mut [i64])
     values(plane, a, b, &mut out[lo..hi]);
 }
 
-fn larger(a: usize, b: usize) -> usize
-    ensures { λ r. ⌜ r ≡ max a b ⌝ }
-{
-    if a < b { b } else { a }
-}
-
-fn smaller(a: usize, b: usize) -> usize
-    ensures { λ r. ⌜ r ≡ min a b ⌝ }
-{
-    if a < b { a } else { b }
-}
-
 // The part from column `first` on of a row with these levels; others are those of the row of g that it meets.
 fn row_part(
     plane: u32,
@@ -144,22 +166,16 @@ fn row_part(
     requires { ⌜ RowAsked (now levels) (now others) counting first (now out) ⌝ }
     ensures { λ _. ⌜ now (out .exit) ≡ tabulate (length (now (out .entry))) (λ k. rowValue plane (now (levels .entry)) (now (others .entry)) counting (first + k)) ⌝ }
 {
-    let from = counting.first;
-    let upto = counting.end;
-    let other = counting.other;
-    let start = larger(first, from);
-    let stop = smaller(first + out.len(), upto);
-    if stop <= start {
-        fill(out, 0);
-        return;
-    }
-    let at = other + (start - from);
-    let until = at + (stop - start);
+    let part = clipped(counting, first, first + out.len());
+    let from = part.first;
+    let upto = part.end;
+    let at = part.other;
+    let until = at + (upto - from);
     padded(
         plane,
-        &levels[start..stop],
+        &levels[from..upto],
         &others[at..until],
-        start - first,
+        from - first,
         out,
     );
 }

@@ -18,7 +18,7 @@ use Rattle.fill.proofs.next_row.Statement.{statement}
 use Rattle.fill.proofs.next_row.Tie as tie
 
 abbrev Inv-loop : tie.InvT-loop
-Inv-loop columns start table₀ above sum₀ j₀ table sum j = (toZ w64 sum ≡ wrap (sumTo j (rowFrom table₀ start))) × Written columns start table₀ table j
+Inv-loop columns start table₀ above sum₀ j₀ table sum j = (toZ w64 sum ≡ wrap (sumTo j (rowFrom table₀ start))) × Written columns start (rowFrom table₀ start) table₀ table j
 
 abbrev μ-loop : tie.MeasureT-loop
 μ-loop columns start table₀ above sum₀ j₀ table sum j = columns - j
@@ -27,7 +27,7 @@ sub-above : tie.Need-sub-above Inv-loop μ-loop
 sub-above c = c .pre .above
 
 loop-holds : tie.Need-loop-holds Inv-loop μ-loop
-loop-holds c = (running-none _, written-none _ _ _)
+loop-holds c = (running-none _, written-none _ _ _ _)
 
 add-at : tie.Need-add-at Inv-loop μ-loop
 add-at c = omega (arith, c .before .loop .inv .1 .size, c .before .before .pre .room)

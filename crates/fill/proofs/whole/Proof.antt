@@ -7,7 +7,6 @@ use lib.ListN.{length}
 use lib.Seq.{length-take-le}
 use borrow.Author.Needs.{needs}
 use Rattle.numbers.specs.Grid.{tabulate}
-use Rattle.numbers.proofs.Writes.{slice-length}
 use Rattle.numbers.proofs.Lines.{Lines, line-end, line-next, lines-all}
 use Rattle.picture.specs.Picture.{Source, source, planeAt}
 use Rattle.picture.proofs.Refusals.{in-limits}
@@ -75,52 +74,20 @@ ends c =
     let l = c .before .loop in
     omega (arith, line-end (l .i) (z .rows) (z .columns) (c .loop-test .taken), l .inv .2, l .inv .3)
 
-add-end : tie.Need-add-end Inv-loop μ-loop
-add-end c = omega (arith, ends c)
-
-mul-part : tie.Need-mul-part Inv-loop μ-loop
-mul-part c = omega (arith, ends c)
-
-sub-part : tie.Need-sub-part Inv-loop μ-loop
-sub-part c = search needs
-
-part-part-start : tie.Need-part-part-start Inv-loop μ-loop
-part-part-start c = search needs
-
-part-part-end : tie.Need-part-part-end Inv-loop μ-loop
-part-part-end c = omega (arith, ends c)
-
-part-requires-2 : tie.Need-part-requires-2 Inv-loop μ-loop
-part-requires-2 c κs =
+row-requires : tie.Need-row-requires Inv-loop μ-loop
+row-requires c κs =
     let s = c .before .before .before .before .before .before .before .before .before in
     let l = c .before .before .loop in
     record {
-      size = s .pre .legal;
+      legal = s .pre .legal;
       length-f = s .pre .length-f;
       length-g = s .pre .length-g;
-      row-inside = c .before .loop-test .taken;
-      part-inside = omega (arith, slice-length (l .start) (l .start + s .args .size .columns) (l .table) (omega arith) (ends (c .before)));
+      inside = c .before .loop-test .taken;
+      room = record { above = omega (arith, l .inv .2, line-end 0 (l .i) (s .args .size .columns) (l .inv .0)); room = ends (c .before) };
     }
 
--- the plane's row that was written
-put-in : (c : tie.After-part2 Inv-loop μ-loop) →
-    let s = c .before .before .before .before .before .before .before .before .before .before in
-    c .part2 .last .1 .1 .1 .1 .1 .1 .1 .0 ≡ tabulate (s .args .size .columns) (λ k. planeAt (given s) (c .before .before .before .loop .i) (0 + k))
-put-in c =
-    let s = c .before .before .before .before .before .before .before .before .before .before in
-    let l = c .before .before .before .loop in
-    let n = slice-length (l .start) (l .start + s .args .size .columns) (l .table) (omega arith) (ends (c .before .before)) in
-    let e : l .start + s .args .size .columns - l .start ≡ s .args .size .columns = omega arith in
-    c .part2 .ensures ∙ ap (λ (n : ℕ). tabulate n (λ k. planeAt (given s) (l .i) (0 + k))) (n ∙ e)
-
-next-row-requires : tie.Need-next-row-requires Inv-loop μ-loop
-next-row-requires c κs =
-    let z = c .before .before .before .before .before .before .before .before .before .before .before .before .args .size in
-    let l = c .before .before .before .before .before .loop in
-    record {
-      above = omega (arith, l .inv .2, line-end 0 (l .i) (z .columns) (l .inv .0));
-      room = omega (arith, c .before .table3 .given .1, ends (c .before .before .before .before));
-    }
+add-start : tie.Need-add-start Inv-loop μ-loop
+add-start c = omega (arith, ends (c .before .before .before))
 
 add-i : tie.Need-add-i Inv-loop μ-loop
 add-i c = search needs
@@ -130,20 +97,17 @@ loop-less c = search needs
 
 loop-again : tie.Need-loop-again Inv-loop μ-loop
 loop-again c =
-    let s = c .before .before .before .before .before .before .before .before .before .before .before .before .before .before in
+    let s = c .before .before .before .before .before .before .before .before .before .before .before in
     let z = s .args .size in
-    let P = planeAt (given s) in
-    let l = c .before .before .before .before .before .before .before .loop in
-    let t = c .before .next-row in
-    let below : l .i < z .rows = c .before .before .before .before .before .before .loop-test .taken in
+    let l = c .before .before .before .before .loop in
+    let t = c .before .row in
+    let below : l .i < z .rows = c .before .before .before .loop-test .taken in
     let lim = in-limits z (s .pre .legal) in (
       omega arith,
       omega (arith, below),
       omega (arith, l .inv .2, line-next (l .i) (z .columns)),
-      t .ensures .size ∙ c .before .before .before .table3 .given .1 ∙ l .inv .3,
-      next-line P (plane-bound (given s) (s .pre .levels-f) (s .pre .levels-g)) (z .columns) (lim .few-columns) _ _ (l .i) (l .start) (l .table)
-          (ends (c .before .before .before .before .before .before)) (put-in (c .before .before .before .before)) (l .inv .0) (omega (arith, lim .few-rows, below)) (l .inv .2) (l .inv .4)
-          (t .ensures),
+      t .ensures .size ∙ l .inv .3,
+      next-line (planeAt (given s)) (plane-bound (given s) (s .pre .levels-f) (s .pre .levels-g)) (z .columns) (lim .few-columns) (l .i) (l .start) (l .table) _ (l .inv .0) (omega (arith, lim .few-rows, below)) (l .inv .2) (l .inv .4) (t .ensures),
     )
 
 same-length : tie.Need-same-length Inv-loop μ-loop
@@ -170,13 +134,8 @@ whole-spec =
     part-requires
     first-row-requires
     loop-holds
-    add-end
-    mul-part
-    sub-part
-    part-part-start
-    part-part-end
-    part-requires-2
-    next-row-requires
+    row-requires
+    add-start
     add-i
     loop-less
     loop-again

@@ -1,42 +1,15 @@
 -- `planes::row_part` meets its contract. Assumes nothing.
 use borrow.Author.Needs.{needs}
-use mathlib.Core.Path.{refl}
-use Prim.Native.Nat.{_+_, _-_, _≤_, _<_, min, max}
-use native.Mathlib.Omega.{arith}
 use lib.ListN.{length}
-use Rattle.numbers.proofs.Writes.{slice-length}
-use Rattle.planes.proofs.RowParts.{row-none, row-some, row-some-asked}
+use Rattle.planes.proofs.RowParts.{row-part-done}
 use Rattle.planes.proofs.row_part.Statement.{statement}
 use Rattle.planes.proofs.row_part.Tie as tie
 
-larger-requires : tie.Need-larger-requires
-larger-requires c κs = search needs
+add-clipped : tie.Need-add-clipped
+add-clipped c = search needs
 
-add-smaller : tie.Need-add-smaller
-add-smaller c = search needs
-
-smaller-requires : tie.Need-smaller-requires
-smaller-requires c κs = search needs
-
-fill-requires : tie.Need-fill-requires
-fill-requires c κs = search needs
-
-same-length : tie.Need-same-length
-same-length c = search needs
-
-returns : tie.Need-returns
-returns c =
-    let s = c .before .before .before .before .before .before in
-    let a = s .args in
-    row-none (a .plane) (a .levels .now) (a .others .now) (a .counting) (a .first) (length (a .out .now)) _ _
-    (c .before .before .before .before .before .larger .ensures) (c .before .before .before .before .smaller .ensures) _ _
-    (c .before .before .before .if1 .taken) (c .before .fill .ensures) (c .before .fill .kept .0)
-
-sub-at : tie.Need-sub-at
-sub-at c = search needs
-
-add-at : tie.Need-add-at
-add-at c = search needs
+clipped-requires : tie.Need-clipped-requires
+clipped-requires c κs = search needs
 
 sub-until : tie.Need-sub-until
 sub-until c = search needs
@@ -72,36 +45,24 @@ sub-padded-3 : tie.Need-sub-padded-3
 sub-padded-3 c = search needs
 
 padded-requires : tie.Need-padded-requires
-padded-requires c κs =
-    let s = c .before .before .before .before .before .before in
-    let a = s .args in
-    row-some-asked (a .plane) (a .levels .now) (a .others .now) (a .counting) (a .first) (length (a .out .now)) _ _
-    (c .before .before .before .before .before .larger .ensures) (c .before .before .before .before .smaller .ensures)
-    (s .pre .in-f) (s .pre .in-g) (c .before .before .before .if1 .left) _ refl
+padded-requires c κs = search needs
 
-same-length-2 : tie.Need-same-length-2
-same-length-2 c = search needs
+same-length : tie.Need-same-length
+same-length c = search needs
 
-returns-2 : tie.Need-returns-2
-returns-2 c =
-    let s = c .before .before .before .before .before .before .before .before in
+returns : tie.Need-returns
+returns c =
+    let p = c .before .before .before .before .before in
+    let s = p .before in
     let a = s .args in
-    row-some (a .plane) (a .levels .now) (a .others .now) (a .counting) (a .first) (length (a .out .now)) _ _
-    (c .before .before .before .before .before .before .before .larger .ensures) (c .before .before .before .before .before .before .smaller .ensures)
-    (s .pre .in-f) (s .pre .in-g) (c .before .before .before .before .before .if1 .left) _ (c .before .padded .ensures)
+    row-part-done (a .plane) (a .levels .now) (a .others .now) (a .counting) (p .clipped .result) (a .first) (length (a .out .now)) (p .clipped .ensures) (s .pre .part) (s .pre .in-g) _ (c .before .padded .ensures)
 
 pub row-part-spec : {M : Type 1} → statement M
 row-part-spec =
     tie.close
     (tie.spec
-    larger-requires
-    add-smaller
-    smaller-requires
-    fill-requires
-    same-length
-    returns
-    sub-at
-    add-at
+    add-clipped
+    clipped-requires
     sub-until
     add-until
     mul-padded
@@ -114,5 +75,5 @@ row-part-spec =
     part-padded-end-2
     sub-padded-3
     padded-requires
-    same-length-2
-    returns-2)
+    same-length
+    returns)
