@@ -3,7 +3,6 @@
 use mathlib.Core.Path.{_≡_, refl, sym, _∙_, ap, ap₂}
 use Prim.Native.Nat.{ℕ, suc, _+_, _-_, _*_, _≤_, _<_}
 use native.Mathlib.Omega.{arith}
-use native.Mathlib.Nat.{mul-le-mul-right}
 use native.Mathlib.Numerals.{add-one}
 use mathlib.Core.Bool.{false, true≢false}
 use mathlib.Core.List.{List, _++_, append-assoc}
@@ -92,9 +91,3 @@ first-and-rest z P s position m n start next row work rest e en er a =
       work-is = a .work-is ∙ ap (λ (l : List ℤ). strip z P s (suc position) m l .work) en;
       output-is = ap₂ _++_ (er ∙ ap (outputRow z s) en) (a .output-is ∙ ap (λ (l : List ℤ). strip z P s (suc position) m l .output) en);
     })
-
--- the place of row k is within the area
-pub row-room : (k n columns : ℕ) → k < n → k * columns + columns ≤ n * columns
-row-room k n columns h =
-    let l : suc k * columns ≤ n * columns = mul-le-mul-right columns h in
-    omega arith

@@ -10,7 +10,7 @@ use Rattle.picture.specs.Window.{shapeOf, height, width}
 use Rattle.picture.specs.Picture.{Source, source, planeAt}
 use Rattle.picture.proofs.Refusals.{in-limits}
 use Rattle.picture.proofs.Windows.{height-width, height-small, width-small}
-use Rattle.session.proofs.Strips.{row-room}
+use Rattle.numbers.proofs.Lines.{line-end}
 use Rattle.slopes.specs.Slopes.{padded}
 use Rattle.edges.specs.Edges.{Slopes, Rows, EdgesAsked}
 use Rattle.edges.proofs.Kept.{zeros-blank, zeros-slopes}
@@ -77,7 +77,7 @@ ends : (c : tie.In-loop Inv-loop μ-loop) → c .before .loop .begin + c .before
 ends c =
     let s = c .before .before .before .before .before .before .before .before .before in
     let l = c .before .loop in
-    omega (arith, l .inv .1, l .inv .2, s .pre .1 .room, row-room (l .m) (s .args .n) (s .args .size .columns) (c .loop-test .taken))
+    omega (arith, l .inv .1, l .inv .2, s .pre .1 .room, line-end (l .m) (s .args .n) (s .args .size .columns) (c .loop-test .taken))
 
 height-requires : tie.Need-height-requires Inv-loop μ-loop
 height-requires c κs = search needs

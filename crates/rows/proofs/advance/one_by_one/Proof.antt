@@ -5,12 +5,13 @@ use Prim.Native.Nat.{ℕ, _+_, _-_, _*_, _≤_}
 use native.Mathlib.Omega.{arith}
 use lib.IntN.{ℤ}
 use lib.ListN.{length}
+use Rattle.numbers.proofs.Lines.{line-end}
 use Rattle.numbers.proofs.Writes.{slice-length}
 use Rattle.picture.specs.Window.{shapeOf}
 use Rattle.picture.specs.Picture.{source, planeAt}
 use Rattle.picture.proofs.Refusals.{in-limits}
 use Rattle.session.specs.Rows.{outputRow}
-use Rattle.session.proofs.Strips.{Partly, partly-none, partly-more, partly-all, row-room}
+use Rattle.session.proofs.Strips.{Partly, partly-none, partly-more, partly-all}
 use Rattle.rows.proofs.advance.one_by_one.Statement.{statement}
 use Rattle.rows.proofs.advance.one_by_one.Tie as tie
 
@@ -29,7 +30,7 @@ ends : (c : tie.In-loop Inv-loop μ-loop) → c .before .loop .start + c .before
 ends c =
     let s = c .before .before in
     let l = c .before .loop in
-    omega (arith, l .inv .1, l .inv .2, s .pre .room, row-room (l .k) (s .args .n) (s .args .size .columns) (c .loop-test .taken))
+    omega (arith, l .inv .1, l .inv .2, s .pre .room, line-end (l .k) (s .args .n) (s .args .size .columns) (c .loop-test .taken))
 
 loop-holds : tie.Need-loop-holds Inv-loop μ-loop
 loop-holds c = (omega arith, omega arith, refl, c .pre .room-work, partly-none (c .args .size) (plane c) (shapeOf (c .args .window)) (c .args .position) (c .args .work .now) (c .args .out .now))
