@@ -20,7 +20,8 @@ use Rattle.picture.specs.Size.{columnGap}
 use Rattle.session.specs.Rows.{enterLeave}
 use Rattle.slopes.specs.Slopes.{padded, rising, falling, edgesChange}
 use Rattle.slopes.proofs.Moves.{padded-left, padded-right, rising-none, falling-none, rising-more, falling-more, rising-step, falling-step, rising-right, falling-left, rising-bound, falling-bound}
-use Rattle.leans.specs.Leans.{Blank, Holds, Within, Moved, gathered, slid, taken}
+use Rattle.slopes.proofs.Parts.{tips}
+use Rattle.leans.specs.Leans.{Blank, Holds, Within, Moved, gathered, slid, taken, takenTips}
 use Rattle.edges.specs.Edges.{Slopes}
 
 -- ---- rows of zeros
@@ -210,3 +211,34 @@ work-edged z P w h i m n rises falls work with-flat out turn l en ef eo =
         (ap₂ _+ℤ_ (l .rising-at (j + (128 + m)) (omega arith) ∙ ap (rising (padded P) w h (128 + i)) e) (l .falling-at (j + (384 - m)) (omega arith) ∙ ap (falling (padded P) w h (128 + i)) e'))
         ∙ wrap-add (at work j +ℤ flat j) (up j +ℤ down j)
         ∙ ap wrap (+ℤ-assoc (at work j) (flat j) (up j +ℤ down j))
+
+-- ---- the work area, when the tips and the slopes have come in together
+pub work-tipped : (z : Size) (P : ℕ → ℕ → ℤ) (past : (m n : ℕ) → z .rows ≤ m → P m n ≡ pos 0) (beside : (m n : ℕ) → z .columns ≤ n → P m n ≡ pos 0) (w h i m n : ℕ) (a c rises falls work out : List ℤ) →
+    m ≤ 254 → h ≤ 127 → w - h ≡ 0 → Holds a (padded P (129 + i + h)) → Holds c (padded P (128 + i - h)) → Slopes (padded P) (z .columns) w h (128 + i) m rises falls → n ≡ z .columns →
+    out ≡ tabulate n (takenTips a c rises falls (128 + m) (384 - m) work) →
+    out ≡ tabulate (z .columns) (λ j. wrap (at work j +ℤ edgesChange z P h w i j))
+unfolding edgesChange
+work-tipped z P past beside w h i m n a c rises falls work out turn low tip ha hc l en eo =
+    eo ∙ ap (λ (k : ℕ). tabulate k (takenTips a c rises falls (128 + m) (384 - m) work)) en
+    ∙ tabulate-cong (z .columns) (takenTips a c rises falls (128 + m) (384 - m) work) (λ j. wrap (at work j +ℤ (flat j +ℤ (up j +ℤ down j)))) at-column
+  where
+    flat : ℕ → ℤ
+    flat j = sumTo (z .columns) (λ k. pick (leb (columnGap z j k) (w - h)) (enterLeave z P i h k))
+
+    up : ℕ → ℤ
+    up j = rising (padded P) w h (128 + i) (256 + j)
+
+    down : ℕ → ℤ
+    down j = falling (padded P) w h (128 + i) (256 + j)
+
+    at-column : (j : ℕ) → j < z .columns → takenTips a c rises falls (128 + m) (384 - m) work j ≡ wrap (at work j +ℤ (flat j +ℤ (up j +ℤ down j)))
+    at-column j j< =
+        let e : j + (128 + m) + 128 - m ≡ 256 + j = omega arith in
+        let e' : j + (384 - m) + m - 128 ≡ 256 + j = omega arith in
+        let place : j + 256 ≡ 256 + j = omega arith in
+        let lower : 129 + i + h ≡ 128 + i + 1 + h = omega arith in
+        let ends : flat j ≡ padded P (128 + i + 1 + h) (256 + j) -ℤ padded P (128 + i - h) (256 + j) = ap (λ (k : ℕ). sumTo (z .columns) (λ q. pick (leb (columnGap z j q) k) (enterLeave z P i h q))) tip ∙ tips z P past beside h i j (omega arith) j< in
+        ap (λ (x : ℤ). wrap (at work j +ℤ x))
+        (ap₂ _+ℤ_
+        (ap₂ _-ℤ_ (ha .each (j + 256) ∙ ap₂ (padded P) lower place) (hc .each (j + 256) ∙ ap (padded P (128 + i - h)) place) ∙ sym ends)
+        (ap₂ _+ℤ_ (l .rising-at (j + (128 + m)) (omega arith) ∙ ap (rising (padded P) w h (128 + i)) e) (l .falling-at (j + (384 - m)) (omega arith) ∙ ap (falling (padded P) w h (128 + i)) e')))

@@ -13,7 +13,7 @@ use Rattle.picture.specs.Size.{sizeLegal, cells}
 use Rattle.picture.specs.Window.{shapeOf, isRectangle}
 use Rattle.picture.specs.Picture.{Source, Inputs, Levels, planeAt}
 use Rattle.slopes.specs.Slopes.{padded, rising, falling, edgesChange}
-use Rattle.leans.specs.Leans.{Blank}
+use Rattle.leans.specs.Leans.{Blank, Holds}
 use Rattle.steps.specs.Asked.{Checked}
 
 -- n cells of each slope of row y, in the m'th row of a call. A slope that rises has moved left by m places, one that falls right by m: the slopes of
@@ -73,6 +73,25 @@ pub record RowDone (x : Source) (i m h w : ℕ) (before a b c rises falls work o
   pub slopes : Slopes (padded (planeAt x)) (x .size .columns) w h (128 + i + 1) (m + 1) rises falls
   pub work-is : work ≡ edged x i h w before
   pub output-is : out ≡ edged x i h w before
+
+-- ---- for planes of levels: the rows that enter and leave in the middle are kept too
+pub record TakeAsked (x : Source) (i m h w : ℕ) (a c rises falls work out : List ℤ) : Type 0 where
+  pub edges : EdgesAsked x i h w
+  pub turn : m ≤ 254
+  pub entering : Holds a (padded (planeAt x) (129 + i + h))
+  pub leaving : Holds c (padded (planeAt x) (128 + i - h))
+  pub slopes : Slopes (padded (planeAt x)) (x .size .columns) w h (128 + i) m rises falls
+  pub room-work : length work ≡ x .size .columns
+  pub room : length out ≡ x .size .columns
+
+pub record LeavingAsked (x : Source) (i m h w : ℕ) (a b c rises falls work out : List ℤ) : Type 0 where
+  pub plane : x .plane ≤ 2
+  pub row : RowAsked x i m h w a b c rises falls work out
+  pub leaving : Holds c (padded (planeAt x) (128 + i - h))
+
+pub record LeavingDone (x : Source) (i m h w : ℕ) (before a b c rises falls work out : List ℤ) : Type 0 where
+  pub row : RowDone x i m h w before a b c rises falls work out
+  pub leaving : Holds c (padded (planeAt x) (129 + i - h))
 
 -- checked inputs with a slanted window, rows of the picture behind row i, a work area, and room for those rows
 pub record ManyAsked (x : Inputs) (i n : ℕ) (work out : List ℤ) : Type 0 where

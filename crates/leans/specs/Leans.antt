@@ -46,6 +46,10 @@ slid a b c s pa pb pc pd sums x =
 abbrev pub taken : (rising falling : List ℤ) → (p q : ℕ) → List ℤ → ℕ → ℤ
 taken rising falling p q work j = wrap (getD work j (pos 0) +ℤ (getD rising (j + p) (pos 0) +ℤ getD falling (j + q) (pos 0)))
 
+-- the same when a number of a has come in too, and one of c has gone
+abbrev pub takenTips : (a c rising falling : List ℤ) → (p q : ℕ) → List ℤ → ℕ → ℤ
+takenTips a c rising falling p q work j = wrap (getD work j (pos 0) +ℤ ((getD a (j + 256) (pos 0) -ℤ getD c (j + 256) (pos 0)) +ℤ (getD rising (j + p) (pos 0) +ℤ getD falling (j + q) (pos 0))))
+
 -- pictures of a legal size, and a row of zeros around the place for the picture's row
 pub record LoadAsked (z : Size) (f g buf : List ℤ) : Type 0 where
   pub size : T (sizeLegal z)
@@ -86,3 +90,10 @@ pub record FinishAsked (m : ℕ) (rising falling : List ℤ) (p q : ℕ) (work o
   pub room-falling : length work + q ≤ 1536
   pub within-rising : Within m rising p (length work)
   pub within-falling : Within m falling q (length work)
+
+-- the same, and two rows
+pub record TipsAsked (m : ℕ) (a c rising falling : List ℤ) (p q : ℕ) (work out : List ℤ) : Type 0 where
+  pub slopes : FinishAsked m rising falling p q work out
+  pub length-a : length a ≡ 1536
+  pub length-c : length c ≡ 1536
+  pub room : length work + 256 ≤ 1536

@@ -8,7 +8,7 @@ ghost use lib.Signed.{mag};
 ghost use Rattle.numbers.specs.Grid.{tabulate};
 ghost use Rattle.picture.specs.Picture.{source, planeAt, planeValue};
 ghost use Rattle.slopes.specs.Slopes.{padded};
-ghost use Rattle.leans.specs.Leans.{Holds, Moved, gathered, slid, taken, LoadAsked, RowAsked, GatherAsked, SlideAsked, FinishAsked};
+ghost use Rattle.leans.specs.Leans.{Holds, Moved, gathered, slid, taken, takenTips, LoadAsked, RowAsked, GatherAsked, SlideAsked, FinishAsked, TipsAsked};
 use picture::Shift;
 use picture::Size;
 
@@ -171,6 +171,38 @@ pub fn finish(
     let mut j = 0;
     while j < work.len() {
         let sum = machine::wrapping_add(work[j], whole(rising[j + p], falling[j + q]));
+        work[j] = sum;
+        out[j] = sum;
+        j += 1;
+    }
+}
+
+// a - c + r + q, of two levels and two slopes.
+fn tipped(a: i16, c: i16, r: i32, q: i32) -> i64
+    requires { ⌜ (mag r ≤ 2 ^ 29) × (mag q ≤ 2 ^ 29) ⌝ }
+    ensures { λ s. ⌜ s ≡ (a -ℤ c) +ℤ (r +ℤ q) ⌝ }
+{
+    ((a as i32 - c as i32) + (r + q)) as i64
+}
+
+// The same of edges that end in a tip: with the slopes a level of a comes in, and one of c goes.
+pub fn finish_tips(
+    a: &[i16; 1536],
+    c: &[i16; 1536],
+    rising: &[i32; 1536],
+    falling: &[i32; 1536],
+    p: usize,
+    q: usize,
+    work: &mut [i64],
+    out: &mut [i64],
+)
+    requires { ⌜ TipsAsked (2 ^ 29) (now a) (now c) (now rising) (now falling) p q (now work) (now out) ⌝ }
+    ensures { λ _. ⌜ (now (work .exit) ≡ tabulate (length (now (work .entry))) (takenTips (now (a .entry)) (now (c .entry)) (now (rising .entry)) (now (falling .entry)) p q (now (work .entry)))) × (now (out .exit) ≡ tabulate (length (now (work .entry))) (takenTips (now (a .entry)) (now (c .entry)) (now (rising .entry)) (now (falling .entry)) p q (now (work .entry)))) ⌝ }
+{
+    let mut j = 0;
+    while j < work.len() {
+        let change = tipped(a[j + 256], c[j + 256], rising[j + p], falling[j + q]);
+        let sum = machine::wrapping_add(work[j], change);
         work[j] = sum;
         out[j] = sum;
         j += 1;

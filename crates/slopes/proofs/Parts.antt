@@ -17,7 +17,7 @@ use Rattle.picture.proofs.Windows.{height-width, depth-slanted}
 use Rattle.session.specs.Rows.{cellBelow, cellAbove, enterLeave, workChange}
 use Rattle.session.specs.Distances.{atDistance}
 use Rattle.session.proofs.Cells.{cell-below, cell-above, none-above}
-use Rattle.session.proofs.Distances.{at-distance-some, near-last}
+use Rattle.session.proofs.Distances.{at-distance-some, near-0, near-last}
 use Rattle.slopes.specs.Slopes.{padded, rising, falling, edgesChange}
 use Rattle.slopes.proofs.Moves.{padded-cell, padded-above, padded-left, padded-right}
 
@@ -121,3 +121,7 @@ module _ (z : Size) (P : ℕ → ℕ → ℤ) (past : (m n : ℕ) → z .rows �
   unfolding workChange edgesChange
   change-parts (rectangle a b) e low narrow i j j< = absurd (true≢false e)
   change-parts (slanted o) e low narrow i j j< = parts (slanted o) e low narrow i j j<
+
+  -- a flat part of one column is a tip: the cell that enters less the one that leaves
+  pub tips : (h i j : ℕ) → h ≤ 128 → j < z .columns → sumTo (z .columns) (λ n. pick (leb (columnGap z j n) 0) (enterLeave z P i h n)) ≡ Q (128 + i + 1 + h) (256 + j) -ℤ Q (128 + i - h) (256 + j)
+  tips h i j l j< = near-0 (z .columns) j (λ d n. enterLeave z P i h n) j< ∙ inside i h j (256 + j) l (omega arith)

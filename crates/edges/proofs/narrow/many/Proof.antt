@@ -8,12 +8,15 @@ use lib.ListN.{length}
 use Rattle.numbers.proofs.Writes.{slice-length}
 use Rattle.picture.specs.Window.{shapeOf, height, width}
 use Rattle.picture.specs.Picture.{Source, source, planeAt}
+use Rattle.picture.proofs.Planes.{plane-beside}
 use Rattle.picture.proofs.Refusals.{in-limits}
 use Rattle.picture.proofs.Windows.{height-width, height-small, width-small}
 use Rattle.numbers.proofs.Lines.{line-end}
 use Rattle.slopes.specs.Slopes.{padded}
 use Rattle.edges.specs.Edges.{Slopes, Rows, EdgesAsked}
-use Rattle.edges.proofs.Kept.{zeros-blank, zeros-slopes}
+use Rattle.leans.specs.Leans.{Holds}
+use Rattle.edges.proofs.Kept.{zeros-blank, zeros-slopes, blank-of}
+use Rattle.edges.proofs.Asks.{load-asked}
 use Rattle.edges.proofs.Advances.{Fits, Passed, passed-none, passed-more, passed-all}
 use Rattle.edges.proofs.narrow.many.Statement.{statement}
 use Rattle.edges.proofs.narrow.many.Tie as tie
@@ -21,7 +24,8 @@ use Rattle.edges.proofs.narrow.many.Tie as tie
 abbrev Inv-loop : tie.InvT-loop
 Inv-loop size f g shift plane i n work₀ out₀ columns h w a₀ b₀ c₀ rises₀ falls₀ m₀ begin₀ work out a b c rises falls m begin =
     (m ≤ n) × (begin ≡ m * size .columns) × (length out ≡ length out₀) × (length work ≡ size .columns) × Passed (source size f g shift plane) h w i work₀ m work out ×
-    Rows (size .columns) a b c × Slopes (padded (planeAt (source size f g shift plane))) (size .columns) w h (128 + (i + m)) m rises falls
+    Rows (size .columns) a b c × Slopes (padded (planeAt (source size f g shift plane))) (size .columns) w h (128 + (i + m)) m rises falls ×
+    Holds c (padded (planeAt (source size f g shift plane)) (128 + (i + m) - h))
 
 abbrev μ-loop : tie.MeasureT-loop
 μ-loop size f g shift plane i n work₀ out₀ columns h w a₀ b₀ c₀ rises₀ falls₀ m₀ begin₀ work out a b c rises falls m begin = n - m
@@ -73,9 +77,9 @@ few s =
     omega (arith, s .pre .1 .room, mul-le-mul rows (z .few-columns))
 
 -- the place of this row is within the output area
-ends : (c : tie.In-loop Inv-loop μ-loop) → c .before .loop .begin + c .before .before .before .before .before .before .before .before .before .args .size .columns ≤ length (c .before .loop .out)
+ends : (c : tie.In-loop Inv-loop μ-loop) → c .before .loop .begin + c .before .before .before .before .before .before .before .before .before .before .before .before .args .size .columns ≤ length (c .before .loop .out)
 ends c =
-    let s = c .before .before .before .before .before .before .before .before .before in
+    let s = c .before .before .before .before .before .before .before .before .before .before .before .before in
     let l = c .before .loop in
     omega (arith, l .inv .1, l .inv .2, s .pre .1 .room, line-end (l .m) (s .args .n) (s .args .size .columns) (c .loop-test .taken))
 
@@ -98,29 +102,46 @@ start-requires c κs =
       },
     )
 
+add-load : tie.Need-add-load Inv-loop μ-loop
+add-load c = omega (arith, c .before .before .before .before .before .before .before .pre .1 .rows, in-limits (c .before .before .before .before .before .before .before .args .size) (c .before .before .before .before .before .before .before .pre .1 .inputs .size) .few-rows)
+
+sub-load : tie.Need-sub-load Inv-loop μ-loop
+sub-load c = omega (arith, fits (c .before .before .before .before .before) .low)
+
+slice-aggregate-load : tie.Need-slice-aggregate-load Inv-loop μ-loop
+slice-aggregate-load c = search needs
+
+load-requires : tie.Need-load-requires Inv-loop μ-loop
+load-requires c κs =
+    let v = c .before .before .before .before .before .before in
+    let s = start v in
+    (s .pre .0, load-asked (pictures v) (s .args .i) (h v) (w v) (edges v (s .args .i) (omega (arith, s .pre .1 .rows))) (zeros-blank 1536 (s .args .size .columns) refl))
+
 loop-holds : tie.Need-loop-holds Inv-loop μ-loop
 loop-holds c =
-    let v = c .before .before .before .before .before in
+    let v = c .before .before .before .before .before .before .before .before in
     let s = start v in
     let first : s .args .i ≡ s .args .i + 0 = omega arith in
-    let r = c .start .ensures in (
+    let r = c .before .before .before .start .ensures in
+    let leaves = c .before .load .ensures in (
       omega arith,
       omega arith,
       refl,
       s .pre .1 .room-work,
       passed-none (pictures v) (h v) (w v) (s .args .i) (s .args .work .now) (s .args .out .now),
-      record { blank-a = r .blank-a; blank-b = r .blank-b; blank-c = zeros-blank 1536 (s .args .size .columns) refl },
+      record { blank-a = r .blank-a; blank-b = r .blank-b; blank-c = blank-of (planeAt (pictures v)) (s .args .size .columns) (plane-beside (pictures v)) _ (128 + s .args .i - h v) leaves },
       rw first at (r .slopes),
+      rw first at leaves,
     )
 
 add-end : tie.Need-add-end Inv-loop μ-loop
-add-end c = omega (arith, ends c, c .before .loop .inv .2, few (c .before .before .before .before .before .before .before .before .before))
+add-end c = omega (arith, ends c, c .before .loop .inv .2, few (c .before .before .before .before .before .before .before .before .before .before .before .before))
 
 add-row : tie.Need-add-row Inv-loop μ-loop
-add-row c = omega (arith, c .before .before .before .before .before .before .before .before .before .pre .1 .rows, c .loop-test .taken, in-limits (c .before .before .before .before .before .before .before .before .before .args .size) (c .before .before .before .before .before .before .before .before .before .pre .1 .inputs .size) .few-rows)
+add-row c = omega (arith, c .before .before .before .before .before .before .before .before .before .before .before .before .pre .1 .rows, c .loop-test .taken, in-limits (c .before .before .before .before .before .before .before .before .before .before .before .before .args .size) (c .before .before .before .before .before .before .before .before .before .before .before .before .pre .1 .inputs .size) .few-rows)
 
 mul-row : tie.Need-mul-row Inv-loop μ-loop
-mul-row c = omega (arith, ends (c .before .before .before .before .before .before), c .before .before .before .before .before .before .before .loop .inv .2, few (c .before .before .before .before .before .before .before .before .before .before .before .before .before .before .before))
+mul-row c = omega (arith, ends (c .before .before .before .before .before .before), c .before .before .before .before .before .before .before .loop .inv .2, few (c .before .before .before .before .before .before .before .before .before .before .before .before .before .before .before .before .before .before))
 
 sub-row : tie.Need-sub-row Inv-loop μ-loop
 sub-row c = search needs
@@ -133,37 +154,41 @@ part-row-end c = omega (arith, ends (c .before .before .before .before .before .
 
 row-requires : tie.Need-row-requires Inv-loop μ-loop
 row-requires c κs =
-    let v = c .before .before .before .before .before .before .before .before .before .before .before .before .before .before in
+    let v = c .before .before .before .before .before .before .before .before .before .before .before .before .before .before .before .before .before in
     let s = start v in
     let l = c .before .before .before .before .before .before .before .before .loop in
     let z = s .args .size in
     let inside = c .before .before .before .before .before .before .before .loop-test .taken in
-    let span : l .begin + z .columns - l .begin ≡ z .columns = omega arith in (
-      s .pre .0,
-      record {
+    let span : l .begin + z .columns - l .begin ≡ z .columns = omega arith in
+    record {
+      plane = s .pre .0;
+      row = record {
         edges = edges v (s .args .i + l .m) (omega (arith, s .pre .1 .rows, inside));
         turn = omega (arith, s .pre .1 .rows, inside, in-limits z (s .pre .1 .inputs .size) .few-rows);
         rows = l .inv .5;
         slopes = l .inv .6;
         room-work = l .inv .3;
         room = slice-length (l .begin) (l .begin + z .columns) (l .out) (omega arith) (ends (c .before .before .before .before .before .before .before)) ∙ span;
-      },
-    )
+      };
+      leaving = l .inv .7;
+    }
 
 add-m : tie.Need-add-m Inv-loop μ-loop
-add-m c = omega (arith, c .before .before .before .before .before .before .before .before .before .before .before .before .before .before .before .before .before .before .before .pre .1 .rows, c .before .before .before .before .before .before .before .before .before .before .loop-test .taken, in-limits (c .before .before .before .before .before .before .before .before .before .before .before .before .before .before .before .before .before .before .before .args .size) (c .before .before .before .before .before .before .before .before .before .before .before .before .before .before .before .before .before .before .before .pre .1 .inputs .size) .few-rows)
+add-m c = omega (arith, c .before .before .before .before .before .before .before .before .before .before .before .before .before .before .before .before .before .before .before .before .before .before .pre .1 .rows, c .before .before .before .before .before .before .before .before .before .before .loop-test .taken, in-limits (c .before .before .before .before .before .before .before .before .before .before .before .before .before .before .before .before .before .before .before .before .before .before .args .size) (c .before .before .before .before .before .before .before .before .before .before .before .before .before .before .before .before .before .before .before .before .before .before .pre .1 .inputs .size) .few-rows)
 
 loop-less : tie.Need-loop-less Inv-loop μ-loop
 loop-less c = search needs
 
 loop-again : tie.Need-loop-again Inv-loop μ-loop
 loop-again c =
-    let v = c .before .before .before .before .before .before .before .before .before .before .before .before .before .before .before .before .before in
+    let v = c .before .before .before .before .before .before .before .before .before .before .before .before .before .before .before .before .before .before .before .before in
     let s = start v in
     let l = c .before .before .before .before .before .before .before .before .before .before .before .loop in
     let z = s .args .size in
-    let r = c .before .before .row .ensures in
-    let next : 128 + (s .args .i + l .m) + 1 ≡ 128 + (s .args .i + (l .m + 1)) = omega arith in (
+    let r = c .before .before .row .ensures .row in
+    let leaves = c .before .before .row .ensures .leaving in
+    let next : 128 + (s .args .i + l .m) + 1 ≡ 128 + (s .args .i + (l .m + 1)) = omega arith in
+    let below : 129 + (s .args .i + l .m) ≡ 128 + (s .args .i + (l .m + 1)) = omega arith in (
       omega (arith, c .before .before .before .before .before .before .before .before .before .before .loop-test .taken),
       omega (arith, l .inv .1),
       c .out .given .1 ∙ l .inv .2,
@@ -171,17 +196,18 @@ loop-again c =
       passed-more (pictures v) (h v) (w v) (s .args .i) (l .m) (l .begin) (s .args .work .now) (l .work) (l .out) _ _ (l .inv .4) (l .inv .1) (ends (c .before .before .before .before .before .before .before .before .before .before)) (r .work-is) (r .output-is),
       r .rows,
       rw next at (r .slopes),
+      rw below at leaves,
     )
 
 same-length : tie.Need-same-length Inv-loop μ-loop
-same-length c = c .before .loop .inv .3 ∙ sym (c .before .before .before .before .before .before .before .before .before .pre .1 .room-work)
+same-length c = c .before .loop .inv .3 ∙ sym (c .before .before .before .before .before .before .before .before .before .before .before .before .pre .1 .room-work)
 
 same-length-2 : tie.Need-same-length-2 Inv-loop μ-loop
 same-length-2 c = c .before .loop .inv .2
 
 returns : tie.Need-returns Inv-loop μ-loop
 returns c =
-    let v = c .before .before .before .before .before .before .before in
+    let v = c .before .before .before .before .before .before .before .before .before .before in
     let s = start v in
     let l = c .before .loop in
     passed-all (pictures v) (h v) (w v) (s .args .i) (s .args .n) (l .m) (s .args .work .now) (l .work) (l .out) (shapeOf (s .args .window)) (fits v) (l .inv .4) (omega (arith, l .inv .0, c .loop-test .left)) (l .inv .2 ∙ s .pre .1 .room)
@@ -195,6 +221,10 @@ many-spec =
     height-requires
     width-requires
     start-requires
+    add-load
+    sub-load
+    slice-aggregate-load
+    load-requires
     loop-holds
     add-end
     add-row
