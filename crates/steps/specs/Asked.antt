@@ -57,7 +57,12 @@ pub record StepAsked (x : Inputs) (i : ℕ) (work line : List ℤ) : Type 0 wher
   pub room-work : length work ≡ x .source .size .columns
   pub room : length line ≡ x .source .size .columns
 
--- the same, a distance from 1 on, and a work area of numbers of 64 bits
+-- the same with two rooms for a row
+pub record ReachAsked (x : Inputs) (i : ℕ) (work line cells : List ℤ) : Type 0 where
+  pub step : StepAsked x i work line
+  pub room : length cells ≡ x .source .size .columns
+
+-- a step, a distance from 1 on, and a work area of numbers of 64 bits
 pub record EdgeAsked (x : Inputs) (i c : ℕ) (work line : List ℤ) : Type 0 where
   pub step : StepAsked x i work line
   pub some : 1 ≤ c

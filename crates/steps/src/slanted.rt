@@ -13,7 +13,7 @@ ghost use Rattle.picture.specs.Window.{shapeOf, reach, width};
 ghost use Rattle.picture.specs.Picture.{source, inputs, planeAt};
 ghost use Rattle.picture.specs.Direct.{directSum};
 ghost use Rattle.steps.specs.Edges.{edgeChange, edgesTo};
-ghost use Rattle.steps.specs.Asked.{FirstAsked, StepAsked, EdgeAsked};
+ghost use Rattle.steps.specs.Asked.{FirstAsked, ReachAsked, StepAsked, EdgeAsked};
 use super::step;
 use picture::Shift;
 use picture::Size;
@@ -21,7 +21,7 @@ use picture::Window;
 use picture::clip;
 use picture::shape;
 
-// Row m of the plane comes into the work area, each cell as far to both sides as the window on row 0 reaches there. The room for a row serves on the way.
+// Row m of the plane comes into the work area, each cell as far to both sides as the window on row 0 reaches there. Two rooms for a row serve on the way.
 fn reaching(
     size: Size,
     f: &[i16],
@@ -32,15 +32,14 @@ fn reaching(
     m: usize,
     work: &mut [i64],
     row: &mut [i64],
+    cells: &mut [i64],
 )
-    requires { ⌜ StepAsked (inputs size (now f) (now g) window shift plane) m (now work) (now row) ⌝ }
+    requires { ⌜ ReachAsked (inputs size (now f) (now g) window shift plane) m (now work) (now row) (now cells) ⌝ }
     ensures { λ _. ⌜ now (work .exit) ≡ tabulate (size .columns) (λ j. wrap (getD (now (work .entry)) j (pos 0) +ℤ sumTo (size .columns) (λ n. pick (leb (columnGap size j n) (reach (shapeOf window) m)) (planeAt (source size (now (f .entry)) (now (g .entry)) shift plane) m n)))) ⌝ }
 {
-    let columns = size.columns;
     let k = shape::reach(window, m);
-    let mut cells = [0i64; 1024];
-    planes::part(size, f, g, shift, plane, m, 0, &mut cells[..columns]);
-    across::across(&cells[..columns], k, row);
+    planes::part(size, f, g, shift, plane, m, 0, cells);
+    across::across(cells, k, row);
     step::add(work, row);
 }
 
@@ -58,11 +57,24 @@ pub fn first(
     requires { ⌜ FirstAsked (inputs size (now f) (now g) window shift plane) (now work) (now row) ⌝ }
     ensures { λ _. ⌜ now (work .exit) ≡ tabulate (size .columns) (directSum (inputs size (now (f .entry)) (now (g .entry)) window shift plane) 0) ⌝ }
 {
+    let columns = size.columns;
     let end = clip::high(0, shape::height(window), size.rows);
+    let mut cells = [0i64; 1024];
     planes::fill(work, 0);
     let mut m = 0;
     while m < end {
-        reaching(size, f, g, window, shift, plane, m, work, row);
+        reaching(
+            size,
+            f,
+            g,
+            window,
+            shift,
+            plane,
+            m,
+            work,
+            row,
+            &mut cells[..columns],
+        );
         m += 1;
     }
 }
