@@ -226,8 +226,8 @@ void rectangles(uint32_t plane, const std::string &title, const std::string &tex
 
 void slanted() {
     section("Diamonds and hexagons",
-            "Row sums, plane 1, one call of 256 rows. `cv::filter2D` has the shape as its kernel, to CV_64F from CV_16S and to CV_32F from CV_32F; floats of 32 bits are not exact, so there the results agree within a millionth of the "
-            "largest sum. Plain Rust adds and drops the edges' cells one by one.");
+            "Row sums, plane 1, one call of 256 rows. `cv::filter2D` has the shape as its kernel, to CV_64F from CV_16S and to CV_32F from CV_32F; large kernels go through a Fourier transform, and floats of 32 bits are not exact, so the "
+            "results agree within a millionth and a thousandth of the largest sum. Plain Rust adds and drops the edges' cells one by one.");
     for (const Window w : {Window{LS_DIAMOND, 2, 0}, Window{LS_DIAMOND, 4, 0}, Window{LS_DIAMOND, 8, 0}, Window{LS_DIAMOND, 16, 0}, Window{LS_DIAMOND, 32, 0}, Window{LS_DIAMOND, 64, 0}, Window{LS_DIAMOND, 127, 0}, Window{LS_HEXAGON, 4, 4},
                           Window{LS_HEXAGON, 16, 16}, Window{LS_HEXAGON, 63, 64}}) {
         const bool diamond = w.shape == LS_DIAMOND;
@@ -236,7 +236,8 @@ void slanted() {
         plain_slanted(ROWS, COLUMNS, picture.data(), k, h, work.data(), rival.data());
         equal("slanted window", sums, rival);
         std::vector<std::function<void()>> runs = {[=] { library_rows(w, LS_PLANE_F, ROWS, sums); }, [=] { library_rows({LS_RECTANGLE, 1, 1}, LS_PLANE_F, ROWS, rival); },
-                                                   [=] { plain_slanted(ROWS, COLUMNS, picture.data(), k, h, work.data(), rival.data()); }, [=] { library_rows(w, LS_PLANE_F, 4, sums); }};
+                                                   [=] { plain_slanted(ROWS, COLUMNS, picture.data(), k, h, work.data(), rival.data()); }, [=] { library_rows(w, LS_PLANE_F, 4, sums); },
+                                                   [=] { library_rows({LS_RECTANGLE, static_cast<int32_t>(h), static_cast<int32_t>(k + h)}, LS_PLANE_F, ROWS, rival); }};
 #ifdef WITH_OPENCV
         static cv::Mat to64, to32, floats;
         levels().convertTo(floats, CV_32F);
@@ -251,15 +252,16 @@ void slanted() {
         runs.push_back(filter64);
         runs.push_back(filter32);
 #endif
-        const auto t = in_turn(h > 40 ? 12 : 25, runs);
+        const auto t = in_turn(h > 40 ? 25 : 40, runs);
         const std::string name = diamond ? "diamond " + std::to_string(w.first) : "hexagon " + std::to_string(w.first) + ", " + std::to_string(w.second);
-        if (t.size() > 4) {
-            row(name, "`cv::filter2D`, 16S to 64F", t[0], t[4]);
-            row(name, "`cv::filter2D`, 32F", t[0], t[5]);
+        if (t.size() > 5) {
+            row(name, "`cv::filter2D`, 16S to 64F", t[0], t[5]);
+            row(name, "`cv::filter2D`, 32F", t[0], t[6]);
         }
         row(name, "plain Rust", t[0], t[2]);
         row(name, "itself by calls of 4 rows", t[0], t[3]);
         row(name, "rectangle 3 × 3", t[0], t[1]);
+        row(name, "rectangle as high and as wide", t[0], t[4]);
     }
 }
 
