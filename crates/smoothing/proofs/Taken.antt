@@ -19,7 +19,7 @@ use Rattle.picture.proofs.Refusals.{none-head, none-rest, number-0, number-refu
 use Rattle.steps.specs.Asked.{Checked}
 use Rattle.smoothed.specs.Smoothing.{smoothed, smoothChecks, smoothCall}
 use Rattle.smoothed.specs.Steady.{firstSteady, steadyChecks, steadyCall}
-use Rattle.smoothing.specs.Inner.{SmoothAsked}
+use Rattle.mean_rows.specs.Asked.{SmoothAsked}
 use Rattle.smoothed.proofs.Means.{smooth-writes, smooth-keeps}
 
 -- ---- smoothing

@@ -1,0 +1,2 @@
+pub mod Voices
+pub mod Searching
