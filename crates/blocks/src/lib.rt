@@ -6,7 +6,6 @@ use picture::Shift;
 use picture::Size;
 use picture::Window;
 use picture::clip;
-use rows::advance;
 
 // The sums of row i stand in the block, at the place of its row in 16; the rows of the block before it were asked for first.
 pub fn next(

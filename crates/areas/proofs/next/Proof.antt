@@ -1,10 +1,10 @@
--- `rows::work::next` meets its contract. Assumes nothing.
+-- `areas::next` meets its contract. Assumes nothing.
 use borrow.Author.Needs.{needs}
 use mathlib.Core.Path.{_≡_, ap, _∙_}
 use Rattle.picture.specs.Window.{shapeOf}
 use Rattle.session.specs.Rows.{outputRow}
-use Rattle.rows.proofs.work.next.Statement.{statement}
-use Rattle.rows.proofs.work.next.Tie as tie
+use Rattle.areas.proofs.next.Statement.{statement}
+use Rattle.areas.proofs.next.Tie as tie
 
 area-requires : tie.Need-area-requires
 area-requires c κs = search needs

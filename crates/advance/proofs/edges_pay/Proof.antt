@@ -1,10 +1,10 @@
--- `rows::advance::edges_pay` meets its contract. Assumes nothing.
+-- `advance::edges_pay` meets its contract. Assumes nothing.
 use borrow.Author.Needs.{needs}
 use mathlib.Core.Path.{sym, _∙_}
 use native.Mathlib.Omega.{arith}
 use lib.Dec.{leb→le}
-use Rattle.rows.proofs.advance.edges_pay.Statement.{statement}
-use Rattle.rows.proofs.advance.edges_pay.Tie as tie
+use Rattle.advance.proofs.edges_pay.Statement.{statement}
+use Rattle.advance.proofs.edges_pay.Tie as tie
 
 is-rectangle-requires : tie.Need-is-rectangle-requires
 is-rectangle-requires c κs = c .pre

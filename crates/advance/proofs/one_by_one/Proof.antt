@@ -1,4 +1,4 @@
--- `rows::advance::one_by_one` meets its contract. Assumes nothing.
+-- `advance::one_by_one` meets its contract. Assumes nothing.
 use borrow.Author.Needs.{needs}
 use mathlib.Core.Path.{_≡_, refl, sym, ap, _∙_}
 use Prim.Native.Nat.{ℕ, _+_, _-_, _*_, _≤_}
@@ -12,8 +12,8 @@ use Rattle.picture.specs.Picture.{source, planeAt}
 use Rattle.picture.proofs.Refusals.{in-limits}
 use Rattle.session.specs.Rows.{outputRow}
 use Rattle.session.proofs.Strips.{Partly, partly-none, partly-more, partly-all}
-use Rattle.rows.proofs.advance.one_by_one.Statement.{statement}
-use Rattle.rows.proofs.advance.one_by_one.Tie as tie
+use Rattle.advance.proofs.one_by_one.Statement.{statement}
+use Rattle.advance.proofs.one_by_one.Tie as tie
 
 abbrev Inv-loop : tie.InvT-loop
 Inv-loop position size f g window shift plane n work₀ out₀ columns k₀ start₀ work out k start =

@@ -1,8 +1,8 @@
--- `rows::advance::many` meets its contract. Assumes nothing.
+-- `advance::many` meets its contract. Assumes nothing.
 use borrow.Author.Needs.{needs}
 use lib.Dec.{T}
-use Rattle.rows.proofs.advance.many.Statement.{statement}
-use Rattle.rows.proofs.advance.many.Tie as tie
+use Rattle.advance.proofs.many.Statement.{statement}
+use Rattle.advance.proofs.many.Tie as tie
 
 edges-pay-requires : tie.Need-edges-pay-requires
 edges-pay-requires c κs = c .pre .inputs .window

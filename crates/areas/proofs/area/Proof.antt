@@ -1,4 +1,4 @@
--- `rows::work::area` meets its contract. Assumes nothing.
+-- `areas::area` meets its contract. Assumes nothing.
 use borrow.Author.Needs.{needs}
 use mathlib.Core.Path.{_≡_, sym, _∙_}
 use mathlib.Core.Bool.{true, false}
@@ -9,9 +9,9 @@ use Rattle.picture.specs.Window.{shapeOf}
 use Rattle.picture.specs.Picture.{Inputs, inputs, planeAt}
 use Rattle.picture.proofs.Refusals.{in-limits}
 use Rattle.picture.proofs.Windows.{height-small}
-use Rattle.rows.proofs.Areas.{area-rectangle-first, area-rectangle-next, area-slanted-first, area-slanted-next}
-use Rattle.rows.proofs.work.area.Statement.{statement}
-use Rattle.rows.proofs.work.area.Tie as tie
+use Rattle.areas.proofs.Shapes.{area-rectangle-first, area-rectangle-next, area-slanted-first, area-slanted-next}
+use Rattle.areas.proofs.area.Statement.{statement}
+use Rattle.areas.proofs.area.Tie as tie
 
 abbrev asked : tie.Start → Inputs
 asked s = inputs (s .args .size) (s .args .f .now) (s .args .g .now) (s .args .window) (s .args .shift) (s .args .plane)

@@ -5,7 +5,7 @@ ghost use lib.ListN.{length};
 ghost use Rattle.picture.specs.Window.{shapeOf};
 ghost use Rattle.picture.specs.Picture.{source, inputs, planeAt};
 ghost use Rattle.session.specs.Rows.{workAfter, outputRow};
-ghost use Rattle.rows.specs.Asked.{OutputAsked};
+ghost use Rattle.areas.specs.Asked.{OutputAsked};
 ghost use Rattle.steps.specs.Asked.{StepAsked};
 use picture::Shift;
 use picture::Size;

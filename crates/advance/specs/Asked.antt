@@ -1,4 +1,4 @@
--- What the functions of the row call ask of their inputs.
+-- What many rows ask.
 -- Assumes nothing.
 use mathlib.Core.Path.{_≡_}
 use Prim.Native.Nat.{ℕ, _+_, _*_, _≤_}
@@ -7,17 +7,10 @@ use mathlib.Core.List.{List}
 use lib.Dec.{T}
 use lib.ListN.{length}
 use lib.IntN.{ℤ}
-use Rattle.picture.specs.declared.Size.{Size}
 use Rattle.picture.specs.declared.Window.{Window}
 use Rattle.picture.specs.Window.{windowLegal, shapeOf, isRectangle}
 use Rattle.picture.specs.Picture.{Inputs}
 use Rattle.steps.specs.Asked.{Checked}
-
--- a legal window, a work area, and room for a row
-pub record OutputAsked (z : Size) (w : Window) (work out : List ℤ) : Type 0 where
-  pub window : T (windowLegal w)
-  pub room-work : length work ≡ z .columns
-  pub room : length out ≡ z .columns
 
 -- checked inputs, rows of the picture from a position on, a work area, and room for those rows
 pub record ManyAsked (x : Inputs) (position n : ℕ) (work out : List ℤ) : Type 0 where

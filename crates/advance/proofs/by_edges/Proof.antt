@@ -1,4 +1,4 @@
--- `rows::advance::by_edges` meets its contract. Assumes nothing.
+-- `advance::by_edges` meets its contract. Assumes nothing.
 use borrow.Author.Needs.{needs}
 use mathlib.Core.Path.{_≡_, refl, sym, _∙_, ap, subst}
 use mathlib.Core.List.{List}
@@ -14,8 +14,8 @@ use Rattle.picture.specs.Window.{shapeOf}
 use Rattle.picture.specs.Picture.{source, planeAt}
 use Rattle.session.specs.Rows.{strip, Advanced, outputRow}
 use Rattle.session.proofs.Strips.{two-parts, first-and-rest}
-use Rattle.rows.proofs.advance.by_edges.Statement.{statement}
-use Rattle.rows.proofs.advance.by_edges.Tie as tie
+use Rattle.advance.proofs.by_edges.Statement.{statement}
+use Rattle.advance.proofs.by_edges.Tie as tie
 
 -- the first row fits the output area, and the others are one fewer
 fits : (s : tie.Start) → s .args .size .columns ≤ length (s .args .out .now)

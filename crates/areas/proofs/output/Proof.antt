@@ -1,11 +1,11 @@
--- `rows::work::output` meets its contract. Assumes nothing.
+-- `areas::output` meets its contract. Assumes nothing.
 use borrow.Author.Needs.{needs}
 use mathlib.Core.Path.{_≡_, sym, _∙_}
 use Rattle.picture.specs.Window.{shapeOf}
 use Rattle.session.proofs.Strips.{output-slanted}
-use Rattle.rows.proofs.Areas.{output-rectangle}
-use Rattle.rows.proofs.work.output.Statement.{statement}
-use Rattle.rows.proofs.work.output.Tie as tie
+use Rattle.areas.proofs.Shapes.{output-rectangle}
+use Rattle.areas.proofs.output.Statement.{statement}
+use Rattle.areas.proofs.output.Tie as tie
 
 is-rectangle-requires : tie.Need-is-rectangle-requires
 is-rectangle-requires c κs = search needs

@@ -1,4 +1,4 @@
--- `rows::work::copy` meets its contract. Assumes nothing.
+-- `areas::copy` meets its contract. Assumes nothing.
 use borrow.Author.Needs.{needs}
 use mathlib.Core.Path.{_≡_, refl, sym, ap, _∙_}
 use Prim.Native.Nat.{ℕ, _-_}
@@ -9,8 +9,8 @@ use mir.Syntax.{w64}
 use mir.Val.{SFits}
 use Rattle.numbers.specs.Grid.{tabulate}
 use Rattle.numbers.proofs.Writes.{at, is-tabulate, Upto, upto-none, upto-more, upto-all}
-use Rattle.rows.proofs.work.copy.Statement.{statement}
-use Rattle.rows.proofs.work.copy.Tie as tie
+use Rattle.areas.proofs.copy.Statement.{statement}
+use Rattle.areas.proofs.copy.Tie as tie
 
 abbrev Inv-loop : tie.InvT-loop
 Inv-loop work out₀ j₀ out j = Upto (at work) out₀ out j
