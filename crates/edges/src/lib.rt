@@ -4,7 +4,7 @@ ghost use Prim.Native.Nat.{suc};
 ghost use Rattle.picture.specs.Window.{shapeOf};
 ghost use Rattle.picture.specs.Picture.{source, inputs, planeAt};
 ghost use Rattle.session.specs.Rows.{strip, Advanced};
-ghost use Rattle.edges.specs.Edges.{ManyAsked};
+ghost use Rattle.kept_slopes.specs.Edges.{ManyAsked};
 use picture::Shift;
 use picture::Size;
 use picture::Window;

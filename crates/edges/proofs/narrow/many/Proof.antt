@@ -13,11 +13,11 @@ use Rattle.picture.proofs.Refusals.{in-limits}
 use Rattle.picture.proofs.Windows.{height-width, height-small, width-small}
 use Rattle.numbers.proofs.Lines.{line-end}
 use Rattle.slopes.specs.Slopes.{padded}
-use Rattle.edges.specs.Edges.{Slopes, Rows, EdgesAsked}
-use Rattle.leans.specs.Leans.{Holds}
-use Rattle.edges.proofs.Kept.{zeros-blank, zeros-slopes, blank-of}
-use Rattle.edges.proofs.Asks.{load-asked}
-use Rattle.edges.proofs.Advances.{Fits, Passed, passed-none, passed-more, passed-all}
+use Rattle.kept_slopes.specs.Edges.{Slopes, Rows, EdgesAsked}
+use Rattle.slopes.specs.Leans.{Holds}
+use Rattle.kept_slopes.proofs.Kept.{zeros-blank, zeros-slopes, blank-of}
+use Rattle.kept_slopes.proofs.Asks.{load-asked}
+use Rattle.kept_slopes.proofs.Advances.{Fits, Passed, passed-none, passed-more, passed-all}
 use Rattle.edges.proofs.narrow.many.Statement.{statement}
 use Rattle.edges.proofs.narrow.many.Tie as tie
 

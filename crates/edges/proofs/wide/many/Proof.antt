@@ -12,9 +12,9 @@ use Rattle.picture.proofs.Refusals.{in-limits}
 use Rattle.picture.proofs.Windows.{height-width, height-small, width-small}
 use Rattle.numbers.proofs.Lines.{line-end}
 use Rattle.slopes.specs.Slopes.{padded}
-use Rattle.edges.specs.Edges.{Slopes, Rows, EdgesAsked}
-use Rattle.edges.proofs.Kept.{zeros-blank, zeros-slopes}
-use Rattle.edges.proofs.Advances.{Fits, Passed, passed-none, passed-more, passed-all}
+use Rattle.kept_slopes.specs.Edges.{Slopes, Rows, EdgesAsked}
+use Rattle.kept_slopes.proofs.Kept.{zeros-blank, zeros-slopes}
+use Rattle.kept_slopes.proofs.Advances.{Fits, Passed, passed-none, passed-more, passed-all}
 use Rattle.edges.proofs.wide.many.Statement.{statement}
 use Rattle.edges.proofs.wide.many.Tie as tie
 
