@@ -2,16 +2,16 @@
 // For callers that have checked their inputs.
 ghost use mathlib.Core.Path.{_≡_};
 ghost use lib.IntN.{pos, _+ℤ_, _-ℤ_};
-ghost use lib.ListN.{getD};
+ghost use lib.ListN.{length, getD};
 ghost use Rattle.numbers.specs.Grid.{tabulate};
 ghost use Rattle.numbers.specs.Wrap.{wrap};
 ghost use Rattle.picture.specs.Picture.{source, planeAt};
-ghost use Rattle.change.specs.Lines.{ExchangeAsked, Numbers};
+ghost use Rattle.lines.specs.Lines.{lineValue, LinesAsked, ExchangeAsked, Numbers};
+use exchanges as values;
+use lines::Line;
+use lines::line_of;
 use picture::Shift;
 use picture::Size;
-
-pub mod line; // line.rt: where the counting cells of a row stand in the pictures
-mod values; // values.rt: the values of two rows, plane by plane
 
 // Every number is of 64 bits. The loop reads each and keeps nothing, so the compiler leaves no code of it.
 fn known(sums: &[i64])
@@ -21,6 +21,43 @@ fn known(sums: &[i64])
     while k < sums.len() {
         let number = sums[k];
         k += 1;
+    }
+}
+
+// The line a enters, and the line b leaves.
+fn exchange_lines(plane: u32, f: &[i16], g: &[i16], a: Line, b: Line, sums: &mut [i64])
+    requires { ⌜ LinesAsked (now f) (now g) a b (now sums) ⌝ }
+    ensures { λ _. ⌜ now (sums .exit) ≡ tabulate (length (now (sums .entry))) (λ k. wrap (getD (now (sums .entry)) k (pos 0) +ℤ (lineValue plane (now (f .entry)) (now (g .entry)) a k -ℤ lineValue plane (now (f .entry)) (now (g .entry)) b k))) ⌝ }
+{
+    let n = sums.len();
+    let af = a.f;
+    let ag = a.g;
+    let bf = b.f;
+    let bg = b.g;
+    let af_end = af + n;
+    let ag_end = ag + n;
+    let bf_end = bf + n;
+    let bg_end = bg + n;
+    if a.counts {
+        if b.counts {
+            values::exchange_values(
+                plane,
+                0,
+                &f[af..af_end],
+                &g[ag..ag_end],
+                &f[bf..bf_end],
+                &g[bg..bg_end],
+                sums,
+            );
+            return;
+        }
+        let zeros = [0i16; 1024];
+        values::enter_values(plane, &f[af..af_end], &g[ag..ag_end], &zeros[..n], sums);
+        return;
+    }
+    if b.counts {
+        let zeros = [0i16; 1024];
+        values::leave_values(plane, &f[bf..bf_end], &g[bg..bg_end], &zeros[..n], sums);
     }
 }
 
@@ -41,17 +78,17 @@ pub fn exchange(
     let rows = size.rows;
     let columns = size.columns;
     let right = shift.right;
-    let counting = planes::overlap_of(rows, shift.down);
-    let along = planes::overlap_of(columns, right);
+    let counting = overlaps::overlap_of(rows, shift.down);
+    let along = overlaps::overlap_of(columns, right);
     let first = along.first;
     let end = along.end;
     known(sums);
-    line::exchange_lines(
+    exchange_lines(
         plane,
         f,
         g,
-        line::line_of(size, counting, along, enter),
-        line::line_of(size, counting, along, leave),
+        line_of(size, counting, along, enter),
+        line_of(size, counting, along, leave),
         &mut sums[first..end],
     );
 }

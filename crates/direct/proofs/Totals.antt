@@ -26,12 +26,12 @@ use Rattle.picture.specs.Direct.{windowSum, directSum}
 use Rattle.picture.proofs.Refusals.{in-limits}
 use Rattle.picture.proofs.Windows.{by-rows, window-bound}
 use Rattle.picture.proofs.Planes.{plane-bound}
-use Rattle.planes.specs.declared.Overlap.{Overlap}
-use Rattle.planes.specs.Overlaps.{Overlapping, Clipped}
-use Rattle.change.specs.declared.line.Line.{Line}
-use Rattle.change.specs.Lines.{lineOf, lineValue, Lies}
-use Rattle.change.proofs.LineValues.{clipped-outside, clipped-value}
-use Rattle.change.proofs.Exchanges.{line-on, line-off, lent-f, lent-g, lent-value}
+use Rattle.overlaps.specs.declared.Overlap.{Overlap}
+use Rattle.overlaps.specs.Overlaps.{Overlapping, Clipped}
+use Rattle.lines.specs.declared.Line.{Line}
+use Rattle.lines.specs.Lines.{lineOf, lineValue, Lies}
+use Rattle.lines.proofs.LineValues.{clipped-outside, clipped-value}
+use Rattle.lines.proofs.Exchanges.{line-on, line-off, lent-f, lent-g, lent-value}
 
 -- ---- levels, in 32 bits: s is the sum of the first k
 pub record Exact (f : ℕ → ℤ) (k : ℕ) (s : ℤ) : Type 0 where

@@ -13,10 +13,10 @@ use Rattle.picture.specs.declared.Window.{Window}
 use Rattle.picture.specs.Size.{sizeLegal, cells}
 use Rattle.picture.specs.Window.{windowLegal, shapeOf, reach}
 use Rattle.picture.specs.Picture.{Levels}
-use Rattle.planes.specs.declared.Overlap.{Overlap}
-use Rattle.planes.specs.Overlaps.{Clipped}
-use Rattle.change.specs.declared.line.Line.{Line}
-use Rattle.change.specs.Lines.{Span, Lies}
+use Rattle.overlaps.specs.declared.Overlap.{Overlap}
+use Rattle.overlaps.specs.Overlaps.{Clipped}
+use Rattle.lines.specs.declared.Line.{Line}
+use Rattle.lines.specs.Lines.{Span, Lies}
 
 -- pictures of levels, of a legal size, a legal window, and a cell of the picture
 pub record SumAsked (z : Size) (f g : List ℤ) (w : Window) (c : Cell) : Type 0 where

@@ -6,10 +6,10 @@ ghost use Rattle.numbers.specs.Wrap.{wrap};
 ghost use Rattle.picture.specs.Picture.{inputs};
 ghost use Rattle.picture.specs.Direct.{directSum, directCall};
 ghost use Rattle.picture.specs.Answers.{sumOutcome};
-ghost use Rattle.change.specs.Lines.{lineValue};
+ghost use Rattle.lines.specs.Lines.{lineValue};
 ghost use Rattle.direct.specs.Summing.{SumAsked, ColumnsAsked, RowColumns, LineSumAsked};
-use change::line;
-use change::line::Line;
+use lines::Line;
+use overlaps::Overlap;
 use picture::Cell;
 use picture::Shift;
 use picture::Size;
@@ -18,7 +18,6 @@ use picture::Window;
 use picture::clip;
 use picture::levels;
 use picture::shape;
-use planes::Overlap;
 
 mod values; // values.rt: the values of a row's cells, summed
 
@@ -31,7 +30,7 @@ fn columns_of(columns: usize, window: Window, cell: Cell, along: Overlap, m: usi
     let column = cell.column;
     let reach = shape::reach(window, clip::distance(row, m));
     let left = clip::low(column, reach);
-    planes::clipped(along, left, clip::high(column, reach, columns))
+    overlaps::clipped(along, left, clip::high(column, reach, columns))
 }
 
 // A sum, with the n cells of a line added.
@@ -66,15 +65,15 @@ pub fn sum(
     let columns = size.columns;
     let row = cell.row;
     let right = shift.right;
-    let counting = planes::overlap_of(rows, shift.down);
-    let along = planes::overlap_of(columns, right);
+    let counting = overlaps::overlap_of(rows, shift.down);
+    let along = overlaps::overlap_of(columns, right);
     let height = shape::height(window);
     let bottom = clip::high(row, height, rows);
     let mut s = 0i64;
     let mut m = clip::low(row, height);
     while m < bottom {
         let part = columns_of(columns, window, cell, along, m);
-        let line = line::line_of(size, counting, part, m);
+        let line = lines::line_of(size, counting, part, m);
         s = add_line(plane, f, g, line, part.end - part.first, s);
         m += 1;
     }

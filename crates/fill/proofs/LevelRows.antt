@@ -8,12 +8,12 @@ use native.Mathlib.Omega.{arith}
 use lib.IntN.{ℤ}
 use Rattle.numbers.proofs.Writes.{at}
 use Rattle.picture.specs.Picture.{Source, planeValue, planeAt}
-use Rattle.planes.specs.declared.Overlap.{Overlap}
-use Rattle.planes.specs.Overlaps.{Overlapping}
-use Rattle.change.specs.declared.line.Line.{Line}
-use Rattle.change.specs.Lines.{lineOf, lineValue, Lies}
-use Rattle.change.proofs.LineValues.{line-value}
-use Rattle.change.proofs.Exchanges.{line-on, lent-f, lent-g, lent-value}
+use Rattle.overlaps.specs.declared.Overlap.{Overlap}
+use Rattle.overlaps.specs.Overlaps.{Overlapping}
+use Rattle.lines.specs.declared.Line.{Line}
+use Rattle.lines.specs.Lines.{lineOf, lineValue, Lies}
+use Rattle.lines.proofs.LineValues.{line-value}
+use Rattle.lines.proofs.Exchanges.{line-on, lent-f, lent-g, lent-value}
 use Rattle.fill.specs.Fill.{NextRow}
 use Rattle.fill.proofs.RowSums.{row-as}
 

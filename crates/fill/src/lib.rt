@@ -8,7 +8,6 @@ ghost use lib.ListN.{length, getD};
 ghost use Rattle.picture.specs.Picture.{source, planeAt};
 ghost use Rattle.cumulative.specs.Table.{tableOf};
 ghost use Rattle.fill.specs.Fill.{Buildable, RowRoom, RowAsked, rowFrom, NextRow, FirstRow};
-use change::line;
 use picture::Shift;
 use picture::Size;
 
@@ -96,9 +95,9 @@ fn row(
     let rows = size.rows;
     let columns = size.columns;
     let right = shift.right;
-    let counting = planes::overlap_of(rows, shift.down);
-    let along = planes::overlap_of(columns, right);
-    let line = line::line_of(size, counting, along, i);
+    let counting = overlaps::overlap_of(rows, shift.down);
+    let along = overlaps::overlap_of(columns, right);
+    let line = lines::line_of(size, counting, along, i);
     if line.counts {
         if columns <= along.end - along.first {
             let lo = line.f;

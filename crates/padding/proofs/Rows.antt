@@ -16,13 +16,13 @@ use Rattle.numbers.proofs.Tests.{and-left, and-right}
 use Rattle.numbers.proofs.Grids.{length-tabulate}
 use Rattle.numbers.proofs.Sums.{pick-yes, pick-no}
 use Rattle.numbers.proofs.Writes.{at, is-tabulate, tabulate-at, part-before, part-within, part-after, part-length}
-use Rattle.planes.specs.declared.Overlap.{Overlap}
-use Rattle.planes.specs.Overlaps.{Overlapping}
+use Rattle.overlaps.specs.declared.Overlap.{Overlap}
+use Rattle.overlaps.specs.Overlaps.{Overlapping}
 use Rattle.picture.specs.Picture.{Source, planeValue, planeAt}
-use Rattle.change.specs.declared.line.Line.{Line}
-use Rattle.change.specs.Lines.{lineOf, lineValue, Lies}
-use Rattle.change.proofs.LineValues.{line-value, column-outside}
-use Rattle.change.proofs.Exchanges.{line-on, line-off, lent-f, lent-g, lent-value}
+use Rattle.lines.specs.declared.Line.{Line}
+use Rattle.lines.specs.Lines.{lineOf, lineValue, Lies}
+use Rattle.lines.proofs.LineValues.{line-value, column-outside}
+use Rattle.lines.proofs.Exchanges.{line-on, line-off, lent-f, lent-g, lent-value}
 use Rattle.slopes.specs.Slopes.{padded}
 use Rattle.slopes.specs.Leans.{Blank, Holds}
 

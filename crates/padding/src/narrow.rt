@@ -58,9 +58,9 @@ fn row(size: Size, f: &[i16], g: &[i16], shift: Shift, plane: u32, row: usize, o
     let rows = size.rows;
     let columns = size.columns;
     let right = shift.right;
-    let counting = planes::overlap_of(rows, shift.down);
-    let along = planes::overlap_of(columns, right);
-    let line = change::line::line_of(size, counting, along, row);
+    let counting = overlaps::overlap_of(rows, shift.down);
+    let along = overlaps::overlap_of(columns, right);
+    let line = lines::line_of(size, counting, along, row);
     fill(out, 0);
     if line.counts {
         let first = along.first;

@@ -18,10 +18,11 @@ use Rattle.numbers.proofs.Sums.{pick-yes, pick-no}
 use borrow.Rule.Slice.PartMut.{putMid}
 use Rattle.numbers.proofs.Writes.{at, is-tabulate, tabulate-at, part-before, part-within, part-after, part-length, slice-at, slice-length}
 use Rattle.picture.specs.declared.Size.{Size}
-use Rattle.planes.specs.declared.Overlap.{Overlap}
+use Rattle.overlaps.specs.declared.Overlap.{Overlap}
 use Rattle.picture.specs.Size.{inRange, inside, cells}
 use Rattle.picture.specs.Picture.{Source, planeValue, counts, planeAt, levelOf, otherOf}
-use Rattle.planes.specs.Overlaps.{Overlapping, Clipped, paddedValue, rowValue}
+use Rattle.overlaps.specs.Overlaps.{Overlapping, Clipped}
+use Rattle.planes.specs.Parts.{paddedValue, rowValue}
 
 -- ---- the planes, as code tells them apart
 pub plane-0 : (p : ℕ) (x y : ℤ) → p ≡ 0 → planeValue p x y ≡ pos 1

@@ -1,82 +1,15 @@
 // A plane's row, part by part: zeros where cells do not count, and one simple loop for each kind of value.
 // For callers that have checked their inputs.
 ghost use mathlib.Core.Path.{_≡_};
-ghost use Prim.Native.Nat.{_+_, min, max};
+ghost use Prim.Native.Nat.{_+_};
 ghost use lib.IntN.{pos, _*ℤ_};
 ghost use lib.ListN.{length, getD};
 ghost use Rattle.numbers.specs.Grid.{tabulate};
 ghost use Rattle.picture.specs.Picture.{source, planeAt, planeValue};
-ghost use Rattle.planes.specs.Overlaps.{Overlapping, ClipAsked, Clipped, paddedValue, PaddedAsked, rowValue, RowAsked, PartAsked};
+ghost use Rattle.planes.specs.Parts.{paddedValue, PaddedAsked, rowValue, RowAsked, PartAsked};
+use overlaps::Overlap;
 use picture::Shift;
 use picture::Size;
-
-// The places that count along one side of the picture under a shift: from `first` up to `end`; the place of g that belongs to
-// `first` is `other`.
-pub struct Overlap {
-    pub first: usize,
-    pub end: usize,
-    pub other: usize,
-}
-
-// Which of n places count where those of g are shifted by `by`.
-pub fn overlap_of(n: usize, by: i32) -> Overlap
-    ensures { λ r. ⌜ Overlapping n by r ⌝ }
-{
-    let far = machine::magnitude(by as i64) as usize;
-    if n <= far {
-        return Overlap {
-            first: 0,
-            end: 0,
-            other: 0,
-        };
-    }
-    if by < 0 {
-        return Overlap {
-            first: far,
-            end: n,
-            other: 0,
-        };
-    }
-    Overlap {
-        first: 0,
-        end: n - far,
-        other: far,
-    }
-}
-
-fn larger(a: usize, b: usize) -> usize
-    ensures { λ r. ⌜ r ≡ max a b ⌝ }
-{
-    if a < b { b } else { a }
-}
-
-fn smaller(a: usize, b: usize) -> usize
-    ensures { λ r. ⌜ r ≡ min a b ⌝ }
-{
-    if a < b { a } else { b }
-}
-
-// The places from lo up to hi among those that count.
-pub fn clipped(counting: Overlap, lo: usize, hi: usize) -> Overlap
-    requires { ⌜ ClipAsked counting lo hi ⌝ }
-    ensures { λ r. ⌜ Clipped counting lo hi r ⌝ }
-{
-    let first = counting.first;
-    let start = larger(lo, first);
-    let end = smaller(hi, counting.end);
-    if end <= start {
-        return Overlap {
-            first: lo,
-            end: lo,
-            other: 0,
-        };
-    }
-    Overlap {
-        first: start,
-        end,
-        other: counting.other + (start - first),
-    }
-}
 
 // Every number of out is the value.
 pub fn fill(out: &mut [i64], value: i64)
@@ -166,7 +99,7 @@ fn row_part(
     requires { ⌜ RowAsked (now levels) (now others) counting first (now out) ⌝ }
     ensures { λ _. ⌜ now (out .exit) ≡ tabulate (length (now (out .entry))) (λ k. rowValue plane (now (levels .entry)) (now (others .entry)) counting (first + k)) ⌝ }
 {
-    let part = clipped(counting, first, first + out.len());
+    let part = overlaps::clipped(counting, first, first + out.len());
     let from = part.first;
     let upto = part.end;
     let at = part.other;
@@ -198,7 +131,7 @@ pub fn part(
     let columns = size.columns;
     let down = shift.down;
     let right = shift.right;
-    let counting = overlap_of(rows, down);
+    let counting = overlaps::overlap_of(rows, down);
     let top = counting.first;
     let bottom = counting.end;
     let other = counting.other;
@@ -218,7 +151,7 @@ pub fn part(
         plane,
         &f[lo..hi],
         &g[at..until],
-        overlap_of(columns, right),
+        overlaps::overlap_of(columns, right),
         first,
         out,
     );

@@ -8,13 +8,13 @@ use mir.Facts.{toZ-ofZ}
 use mir.Syntax.{w32}
 use mir.Val.{SFits}
 use Rattle.numbers.proofs.Writes.{slice-length, part-length}
-use Rattle.planes.specs.declared.Overlap.{Overlap}
+use Rattle.overlaps.specs.declared.Overlap.{Overlap}
 use Rattle.picture.specs.Picture.{Source, source}
-use Rattle.planes.specs.Overlaps.{Overlapping}
+use Rattle.overlaps.specs.Overlaps.{Overlapping}
 use Rattle.picture.proofs.Refusals.{in-limits}
-use Rattle.change.specs.Lines.{lineOf, Lies}
-use Rattle.change.proofs.LineValues.{span, line-lies}
-use Rattle.change.proofs.Exchanges.{slice-numbers, exchange-done}
+use Rattle.lines.specs.Lines.{lineOf, Lies}
+use Rattle.lines.proofs.LineValues.{span, line-lies}
+use Rattle.lines.proofs.Exchanges.{slice-numbers, exchange-done}
 use Rattle.change.proofs.exchange.Statement.{statement}
 use Rattle.change.proofs.exchange.Tie as tie
 

@@ -11,7 +11,7 @@ use borrow.Author.Count.{below-none, below-more}
 use Rattle.numbers.specs.Wrap.{wrap}
 use Rattle.numbers.proofs.Wraps.{wrap-fits}
 use Rattle.numbers.proofs.Writes.{at, at-past}
-use Rattle.change.specs.Lines.{Numbers}
+use Rattle.lines.specs.Lines.{Numbers}
 use Rattle.change.proofs.known.Statement.{statement}
 use Rattle.change.proofs.known.Tie as tie
 

@@ -5,7 +5,7 @@ use mathlib.Core.Path.{_∙_}
 use mir.Syntax.{w64}
 use mir.Val.{SFits}
 use mir.Facts.{toZ-ofZ}
-use Rattle.change.proofs.Exchanges.{lent-lengths}
+use Rattle.lines.proofs.Exchanges.{lent-lengths}
 use Rattle.direct.proofs.Totals.{line-none-added, line-added}
 use Rattle.direct.proofs.add_line.Statement.{statement}
 use Rattle.direct.proofs.add_line.Tie as tie

@@ -5,7 +5,7 @@ use Prim.Native.Nat.{ℕ, suc, _+_, _-_, min}
 use native.Mathlib.Omega.{arith}
 use Rattle.numbers.specs.Sum.{dist}
 use Rattle.picture.specs.Window.{shapeOf, reach}
-use Rattle.planes.specs.Overlaps.{Clipped}
+use Rattle.overlaps.specs.Overlaps.{Clipped}
 use Rattle.direct.proofs.columns_of.Statement.{statement}
 use Rattle.direct.proofs.columns_of.Tie as tie
 

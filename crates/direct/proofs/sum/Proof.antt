@@ -12,10 +12,10 @@ use Rattle.numbers.proofs.Running.{range-none, range-more}
 use Rattle.picture.specs.declared.Shift.{Shift}
 use Rattle.picture.specs.Picture.{inputs}
 use Rattle.picture.proofs.Refusals.{in-limits}
-use Rattle.planes.specs.Overlaps.{Overlapping}
-use Rattle.change.specs.Lines.{lineValue, Lies}
-use Rattle.change.specs.declared.line.Line.{Line}
-use Rattle.change.proofs.LineValues.{line-lies}
+use Rattle.overlaps.specs.Overlaps.{Overlapping}
+use Rattle.lines.specs.Lines.{lineValue, Lies}
+use Rattle.lines.specs.declared.Line.{Line}
+use Rattle.lines.proofs.LineValues.{line-lies}
 use Rattle.direct.proofs.Totals.{windowRow, row-total, rows-done}
 use Rattle.direct.proofs.sum.Statement.{statement}
 use Rattle.direct.proofs.sum.Tie as tie

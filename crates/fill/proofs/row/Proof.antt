@@ -13,13 +13,13 @@ use mir.Val.{SFits}
 use Rattle.numbers.proofs.Writes.{at}
 use Rattle.picture.specs.Picture.{Source, source}
 use Rattle.picture.proofs.Refusals.{in-limits}
-use Rattle.planes.specs.declared.Overlap.{Overlap}
-use Rattle.planes.specs.Overlaps.{Overlapping}
+use Rattle.overlaps.specs.declared.Overlap.{Overlap}
+use Rattle.overlaps.specs.Overlaps.{Overlapping}
 use Rattle.planes.proofs.RowParts.{plane-1, plane-2}
-use Rattle.change.specs.declared.line.Line.{Line}
-use Rattle.change.specs.Lines.{Lies}
-use Rattle.change.proofs.LineValues.{line-lies}
-use Rattle.change.proofs.Exchanges.{lent-f, lent-g, lent-lengths}
+use Rattle.lines.specs.declared.Line.{Line}
+use Rattle.lines.specs.Lines.{Lies}
+use Rattle.lines.proofs.LineValues.{line-lies}
+use Rattle.lines.proofs.Exchanges.{lent-f, lent-g, lent-lengths}
 use Rattle.fill.proofs.LevelRows.{row-of-levels}
 use Rattle.fill.proofs.row.Statement.{statement}
 use Rattle.fill.proofs.row.Tie as tie

@@ -10,7 +10,7 @@ use mir.Syntax.{w32}
 use mir.Val.{SFits}
 use Rattle.numbers.proofs.Tests.{and-left, and-right}
 use Rattle.picture.specs.Picture.{Source, source}
-use Rattle.planes.specs.Overlaps.{Overlapping}
+use Rattle.overlaps.specs.Overlaps.{Overlapping}
 use Rattle.picture.proofs.Refusals.{in-limits}
 use Rattle.planes.proofs.RowParts.{part-none, part-some, row-end, other-inside}
 use Rattle.planes.proofs.part.Statement.{statement}

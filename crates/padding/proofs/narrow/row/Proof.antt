@@ -10,12 +10,12 @@ use mir.Facts.{toZ-ofZ}
 use mir.Syntax.{w32}
 use mir.Val.{SFits}
 use Rattle.numbers.proofs.Writes.{slice-length, part-length}
-use Rattle.planes.specs.declared.Overlap.{Overlap}
-use Rattle.planes.specs.Overlaps.{Overlapping}
+use Rattle.overlaps.specs.declared.Overlap.{Overlap}
+use Rattle.overlaps.specs.Overlaps.{Overlapping}
 use Rattle.picture.specs.Picture.{Source, source}
 use Rattle.picture.proofs.Refusals.{in-limits}
-use Rattle.change.specs.Lines.{Lies}
-use Rattle.change.proofs.LineValues.{span, line-lies}
+use Rattle.lines.specs.Lines.{Lies}
+use Rattle.lines.proofs.LineValues.{span, line-lies}
 use Rattle.padding.proofs.Rows.{row-none, row-some}
 use Rattle.padding.proofs.narrow.row.Statement.{statement}
 use Rattle.padding.proofs.narrow.row.Tie as tie
