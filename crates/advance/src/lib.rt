@@ -9,7 +9,6 @@ ghost use Rattle.advance.specs.Asked.{ManyAsked, SlantedAsked, Pays};
 use picture::Shift;
 use picture::Size;
 use picture::Window;
-use picture::shape;
 
 // n rows from a position on, one after the other.
 fn one_by_one(

@@ -17,9 +17,9 @@ use Rattle.picture.specs.Window.{Shape, rectangle, slanted, shapeOf, isRectangl
 use Rattle.picture.specs.Picture.{Inputs, planeAt}
 use Rattle.picture.specs.Direct.{directSum}
 use Rattle.session.specs.Rows.{columnSum, enterLeave, workValue, workChange, workAfter, outputRow}
-use Rattle.steps.specs.Edges.{edgesTo}
+use Rattle.slanted.specs.Edges.{edgesTo}
 use Rattle.across.specs.Across.{neighbourSum}
-use Rattle.steps.proofs.EdgeRows.{edges-are}
+use Rattle.slanted.proofs.EdgeRows.{edges-are}
 
 module _ (z : Size) (P : ℕ → ℕ → ℤ) (work out : List ℤ) where
   pub area-rectangle-first : (s : Shape) (position a : ℕ) → isRectangle s ≡ true → a ≡ height s → position ≡ 0 →

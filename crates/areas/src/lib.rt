@@ -10,9 +10,7 @@ ghost use Rattle.steps.specs.Asked.{StepAsked};
 use picture::Shift;
 use picture::Size;
 use picture::Window;
-use picture::shape;
 use steps::rectangle;
-use steps::slanted;
 use steps::step;
 
 // The work area moves on to the row at a position: at position 0 it is not read. The room for a row serves on the way.

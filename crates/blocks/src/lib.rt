@@ -5,7 +5,6 @@ ghost use Rattle.blocks.specs.Blocks.{RowAsked, RowSums};
 use picture::Shift;
 use picture::Size;
 use picture::Window;
-use picture::clip;
 
 // The sums of row i stand in the block, at the place of its row in 16; the rows of the block before it were asked for first.
 pub fn next(

@@ -64,8 +64,8 @@ fn rectangle(size: Size, table: &[i64], a: usize, b: usize, i: usize, j: usize) 
     requires { ⌜ ReadableAt size (now table) i j × (a ≤ 127) × (b ≤ 127) ⌝ }
     ensures { λ r. ⌜ r ≡ wrap (readRectangle size (now (table .entry)) a b i j) ⌝ }
 {
-    let top = picture::clip::low(i, a);
-    let left = picture::clip::low(j, b);
+    let top = clip::low(i, a);
+    let left = clip::low(j, b);
     four_corners(size, table, top, i + a + 1, left, j + b + 1)
 }
 
@@ -77,13 +77,13 @@ fn row_by_row(size: Size, table: &[i64], window: Window, cell: Cell) -> i64
     let rows = size.rows;
     let row = cell.row;
     let column = cell.column;
-    let height = picture::shape::height(window);
-    let end = picture::clip::high(row, height, rows);
-    let mut m = picture::clip::low(row, height);
+    let height = shape::height(window);
+    let end = clip::high(row, height, rows);
+    let mut m = clip::low(row, height);
     let mut sum = 0i64;
     while m < end {
-        let distance = picture::clip::distance(row, m);
-        let reach = picture::shape::reach(window, distance);
+        let distance = clip::distance(row, m);
+        let reach = shape::reach(window, distance);
         let part = rectangle(size, table, 0, reach, m, column);
         sum = machine::wrapping_add(sum, part);
         m += 1;
@@ -96,11 +96,11 @@ pub fn window_sum(size: Size, table: &[i64], window: Window, cell: Cell) -> i64
     requires { ⌜ ReadableAt size (now table) (cell .row) (cell .column) × T (windowLegal window) ⌝ }
     ensures { λ r. ⌜ r ≡ readTable size (now (table .entry)) window (cell .row) (cell .column) ⌝ }
 {
-    if picture::shape::is_rectangle(window) {
+    if shape::is_rectangle(window) {
         let i = cell.row;
         let j = cell.column;
-        let height = picture::shape::height(window);
-        let width = picture::shape::width(window);
+        let height = shape::height(window);
+        let width = shape::width(window);
         return rectangle(size, table, height, width, i, j);
     }
     row_by_row(size, table, window, cell)

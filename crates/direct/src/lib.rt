@@ -15,9 +15,6 @@ use picture::Shift;
 use picture::Size;
 use picture::SumAnswer;
 use picture::Window;
-use picture::clip;
-use picture::levels;
-use picture::shape;
 
 mod values; // values.rt: the values of a row's cells, summed
 

@@ -9,7 +9,6 @@ use padding::narrow as rows;
 use picture::Shift;
 use picture::Size;
 use picture::Window;
-use picture::shape;
 use slope_rows::narrow::row;
 use slope_starts::narrow::start;
 

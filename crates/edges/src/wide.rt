@@ -8,7 +8,6 @@ ghost use Rattle.kept_slopes.specs.Edges.{ManyAsked};
 use picture::Shift;
 use picture::Size;
 use picture::Window;
-use picture::shape;
 use slope_rows::wide::row;
 use slope_starts::wide::start;
 

@@ -11,7 +11,7 @@ use Rattle.picture.specs.Picture.{Source, planeAt}
 use Rattle.picture.proofs.Refusals.{in-limits}
 use Rattle.slopes.specs.Slopes.{padded}
 use Rattle.slopes.specs.Leans.{Blank, LoadAsked, GatherAsked, FinishAsked}
-use Rattle.steps.specs.Asked.{FlatAsked}
+use Rattle.flat.specs.Asked.{FlatAsked}
 use Rattle.kept_slopes.specs.Edges.{Slopes, EdgesAsked}
 use Rattle.kept_slopes.proofs.Kept.{within-rises, within-falls}
 

@@ -1,8 +1,4 @@
-// The picture, its window, and two pictures under a shift: their types, and a window by its rows and columns.
-
-pub mod shape; // shape.rt: a legal window by its rows
-pub mod clip; // clip.rt: the ends of a window, clipped to the picture
-pub mod levels; // levels.rt: what the type of a picture says of its levels
+// The picture, its window, and two pictures under a shift: their types. What they mean stands in specs/.
 
 // "A picture has 1 to 256 rows and 1 to 1,024 columns."
 pub struct Size {

@@ -8,7 +8,6 @@ use narrow_leans as loops;
 use padding::narrow as rows;
 use picture::Shift;
 use picture::Size;
-use steps::flat;
 
 // From row i to i+1, in the m'th row of a call: the flat parts and the slopes come into the work area. Where a flat part is one column, a tip,
 // the row that enters there stands in a, and the one that leaves in c.

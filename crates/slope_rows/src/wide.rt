@@ -5,7 +5,6 @@ ghost use Rattle.kept_slopes.specs.Edges.{RowAsked, RowDone};
 use padding::wide as rows;
 use picture::Shift;
 use picture::Size;
-use steps::flat;
 use wide_leans as loops;
 
 // From row i to i+1, in the m'th row of a call: the flat parts and the slopes come into the work area, and the slopes move on.

@@ -1,4 +1,3 @@
 pub mod RowCells
 pub mod Columns
-pub mod EdgeRows
 pub mod AcrossRows

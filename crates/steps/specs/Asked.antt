@@ -4,9 +4,8 @@ use mathlib.Core.Path.{_≡_}
 use Prim.Native.Nat.{ℕ, _≤_, _<_}
 use mathlib.Core.List.{List}
 use lib.Dec.{T}
-use lib.ListN.{length, getD}
-use lib.IntN.{ℤ, pos}
-use Rattle.numbers.specs.Wrap.{wrap}
+use lib.ListN.{length}
+use lib.IntN.{ℤ}
 use Rattle.picture.specs.declared.Size.{Size}
 use Rattle.picture.specs.Size.{sizeLegal, cells}
 use Rattle.picture.specs.Window.{windowLegal}
@@ -20,11 +19,6 @@ pub record RowAsked (z : Size) (f g : List ℤ) (i d : ℕ) (out : List ℤ) : T
   pub row : i ≤ 256
   pub distance : d ≤ 127
   pub room : length out ≡ z .columns
-
--- such pictures, a row and a distance from it, a work area, and room for a row
-pub record FlatAsked (z : Size) (f g : List ℤ) (i h : ℕ) (work line : List ℤ) : Type 0 where
-  pub row : RowAsked z f g i h work
-  pub room : length line ≡ z .columns
 
 -- pictures of levels, and a work area
 pub record FirstColumnsAsked (z : Size) (f g work : List ℤ) : Type 0 where
@@ -44,27 +38,9 @@ pub record Checked (x : Inputs) : Type 0 where
   pub levels-g : Levels (x .source .g)
   pub window : T (windowLegal (x .window))
 
--- such inputs, a work area, and room for a row
-pub record FirstAsked (x : Inputs) (work line : List ℤ) : Type 0 where
-  pub inputs : Checked x
-  pub room-work : length work ≡ x .source .size .columns
-  pub room : length line ≡ x .source .size .columns
-
 -- such inputs, a row of the picture, a work area, and room for a row
 pub record StepAsked (x : Inputs) (i : ℕ) (work line : List ℤ) : Type 0 where
   pub inputs : Checked x
   pub row : i < x .source .size .rows
   pub room-work : length work ≡ x .source .size .columns
   pub room : length line ≡ x .source .size .columns
-
--- the same with two rooms for a row
-pub record ReachAsked (x : Inputs) (i : ℕ) (work line cells : List ℤ) : Type 0 where
-  pub step : StepAsked x i work line
-  pub room : length cells ≡ x .source .size .columns
-
--- a step, a distance from 1 on, and a work area of numbers of 64 bits
-pub record EdgeAsked (x : Inputs) (i c : ℕ) (work line : List ℤ) : Type 0 where
-  pub step : StepAsked x i work line
-  pub some : 1 ≤ c
-  pub few : c < x .source .size .columns
-  pub wrapped : (j : ℕ) → wrap (getD work j (pos 0)) ≡ getD work j (pos 0)

@@ -7,7 +7,6 @@ ghost use Rattle.session.specs.Rows.{columnSum};
 ghost use Rattle.steps.specs.Asked.{FirstColumnsAsked};
 use picture::Shift;
 use picture::Size;
-use picture::clip;
 
 // Row 0: the column sums over rows 0 to a.
 pub fn first(size: Size, f: &[i16], g: &[i16], shift: Shift, plane: u32, a: usize, work: &mut [i64])
