@@ -129,3 +129,9 @@ unfolding depth height width
 depth-slanted (rectangle a b) e q = absurd (true≢false e)
 depth-slanted (slanted (diamond r)) e q = omega arith
 depth-slanted (slanted (hexagon k h)) e q = refl
+
+pub reach-slanted : (s : Shape) → isRectangle s ≡ false → (p : ℕ) → reach s p ≡ width s - p
+unfolding reach width
+reach-slanted (rectangle a b) e p = absurd (true≢false e)
+reach-slanted (slanted (diamond r)) e p = refl
+reach-slanted (slanted (hexagon k h)) e p = refl

@@ -62,7 +62,8 @@ done Q columns m W work e fits w = w ∙ tabulate-cong columns (λ j. wrap (sumT
 abbrev pub reached : Size → (ℕ → ℕ → ℤ) → Shape → (m j : ℕ) → ℤ
 reached z P s m j = sumTo (z .columns) (λ n. pick (leb (columnGap z j n) (reach s m)) (P m n))
 
-window-0 : (z : Size) (P : ℕ → ℕ → ℤ) (s : Shape) (j : ℕ) → windowSum z s P 0 j ≡ sumTo (min (suc (0 + height s)) (z .rows)) (λ m. reached z P s m j)
+-- the window sum of row 0, row by row
+pub window-0 : (z : Size) (P : ℕ → ℕ → ℤ) (s : Shape) (j : ℕ) → windowSum z s P 0 j ≡ sumTo (min (suc (0 + height s)) (z .rows)) (λ m. reached z P s m j)
 window-0 z P s j =
     by-rows z s P 0 j
     ∙ sum-cong (z .rows) (λ m. pick (leb (dist 0 m) (height s)) (sumTo (z .columns) (λ n. pick (leb (dist j n) (reach s (dist 0 m))) (P m n)))) (λ m. pick (leb (dist 0 m) (height s)) (reached z P s m j))
