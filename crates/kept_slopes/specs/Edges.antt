@@ -1,12 +1,12 @@
 -- The slopes of a slanted window's edges as the code keeps them from row to row, and what its functions ask.
 -- Assumes nothing.
 use mathlib.Core.Path.{_≡_}
-use Prim.Native.Nat.{ℕ, _+_, _-_, _*_, _≤_, _<_}
+use Prim.Native.Nat.{ℕ, zero, suc, _+_, _-_, _*_, _≤_, _<_}
 use mathlib.Core.Bool.{false}
 use mathlib.Core.List.{List}
 use lib.Dec.{T}
 use lib.ListN.{length, getD}
-use lib.IntN.{ℤ, pos, _+ℤ_}
+use lib.IntN.{ℤ, pos, _+ℤ_, _-ℤ_}
 use Rattle.numbers.specs.Grid.{tabulate}
 use Rattle.numbers.specs.Wrap.{wrap}
 use Rattle.picture.specs.Size.{sizeLegal, cells}
@@ -53,6 +53,18 @@ pub record Started (x : Source) (i h w : ℕ) (a b rises falls : List ℤ) : Typ
   pub blank-a : Blank a (x .size .columns)
   pub blank-b : Blank b (x .size .columns)
   pub slopes : Slopes (padded (planeAt x)) (x .size .columns) w h (128 + i) 0 rises falls
+
+-- the sum at column j of a row that begins with `corner`: from a column to the next its rising slopes come in and the falling ones of the next go
+unfoldable pub acrossSlopes : (corner : ℤ) → (rises falls : List ℤ) → (j : ℕ) → ℤ
+acrossSlopes corner rises falls zero = corner
+acrossSlopes corner rises falls (suc j) = wrap (acrossSlopes corner rises falls j +ℤ (getD rises (j + 128) (pos 0) -ℤ getD falls (j + 385) (pos 0)))
+
+-- slopes, and room for a row twice
+pub record AcrossAsked (rises falls work out : List ℤ) : Type 0 where
+  pub length-rises : length rises ≡ 1536
+  pub length-falls : length falls ≡ 1536
+  pub few : length work ≤ 1024
+  pub room : length out ≡ length work
 
 -- the m'th row of a call, with its slopes, a work area, and room for a row
 pub record RowAsked (x : Source) (i m h w : ℕ) (a b c rises falls work out : List ℤ) : Type 0 where
