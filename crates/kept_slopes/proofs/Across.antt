@@ -4,7 +4,7 @@ use mathlib.Core.Path.{_≡_, refl, sym, _∙_, ap, ap₂}
 use Prim.Native.Nat.{ℕ, zero, suc, _+_, _-_, _^_, _≤_, _<_}
 use native.Mathlib.Omega.{arith}
 use native.Mathlib.Numerals.{add-one}
-use mathlib.Core.Bool.{false}
+use mathlib.Core.Bool.{false, true≢false}
 use mathlib.Core.List.{List}
 use lib.IntN.{ℤ, pos, natAbs, _+ℤ_, _-ℤ_}
 use Rattle.numbers.specs.Grid.{tabulate}
@@ -13,11 +13,16 @@ use Rattle.numbers.proofs.Grids.{tabulate-cong}
 use Rattle.numbers.proofs.Wraps.{wrap-small}
 use Rattle.numbers.proofs.Writes.{at}
 use Rattle.picture.specs.declared.Size.{Size}
-use Rattle.picture.specs.Window.{Shape, isRectangle, height, width}
-use Rattle.picture.specs.Direct.{windowSum}
-use Rattle.picture.proofs.Refusals.{InLimits}
+use Rattle.picture.specs.Window.{Shape, rectangle, slanted, shapeOf, isRectangle, height, width}
+use Rattle.picture.specs.Picture.{Inputs, planeAt}
+use Rattle.picture.specs.Direct.{windowSum, directSum}
+use Rattle.picture.proofs.Planes.{plane-bound, plane-past, plane-beside}
+use Rattle.picture.proofs.Refusals.{InLimits, in-limits}
+use Rattle.picture.proofs.Windows.{height-small, width-small}
+use Rattle.session.specs.Rows.{workValue, workAfter}
 use Rattle.session.proofs.Steps.{window-fits}
 use Rattle.slopes.specs.Slopes.{padded, rising, falling}
+use Rattle.steps.specs.Asked.{Checked}
 use Rattle.kept_slopes.specs.Edges.{Slopes, acrossSlopes}
 use Rattle.kept_slopes.proofs.First.{first-step}
 
@@ -46,3 +51,20 @@ module _ (z : Size) (P : ℕ → ℕ → ℤ) (past : (m n : ℕ) → z .rows �
 
   pub across-windows : tabulate (z .columns) (acrossSlopes (windowSum z s P 0 0) rises falls) ≡ tabulate (z .columns) (windowSum z s P 0)
   across-windows = tabulate-cong (z .columns) (acrossSlopes (windowSum z s P 0 0) rises falls) (windowSum z s P 0) across-is
+
+-- the work area of row 0, as a call makes it from the first sum and the slopes
+pub fresh-row : (x : Inputs) (c : Checked x) (no-rectangle : isRectangle (shapeOf (x .window)) ≡ false) (some : 1 ≤ height (shapeOf (x .window))) (rises falls before next : List ℤ) (corner : ℤ) (n : ℕ) →
+    Slopes (padded (planeAt (x .source))) (x .source .size .columns) (width (shapeOf (x .window))) (height (shapeOf (x .window))) 128 0 rises falls →
+    corner ≡ directSum x 0 0 → n ≡ x .source .size .columns → next ≡ tabulate n (acrossSlopes corner rises falls) → next ≡ workAfter (x .source .size) (planeAt (x .source)) (shapeOf (x .window)) 0 before
+unfolding directSum
+fresh-row x c no-rectangle some rises falls before next corner n kept ec en e =
+    let z = x .source .size in
+    let P = planeAt (x .source) in
+    e
+    ∙ ap₂ (λ (m : ℕ) (v : ℤ). tabulate m (acrossSlopes v rises falls)) en ec
+    ∙ across-windows z P (plane-past (x .source)) (plane-beside (x .source)) (in-limits z (c .size)) (plane-bound (x .source) (c .levels-f) (c .levels-g)) (shapeOf (x .window)) no-rectangle (height-small (x .window) (c .window)) (width-small (x .window) (c .window)) some rises falls kept
+    ∙ go (shapeOf (x .window)) no-rectangle
+  where
+    go : (s : Shape) → isRectangle s ≡ false → tabulate (x .source .size .columns) (windowSum (x .source .size) s (planeAt (x .source)) 0) ≡ workAfter (x .source .size) (planeAt (x .source)) s 0 before
+    go (rectangle a b) e = absurd (true≢false e)
+    go (slanted o) e = unfold workAfter workValue in refl

@@ -1,7 +1,8 @@
 -- Row after row: the edges' change is the session's, and the rows that a loop has made.
 -- Assumes nothing.
 use mathlib.Core.Path.{_≡_, sym, _∙_, ap, ap₂}
-use Prim.Native.Nat.{ℕ, suc, _+_, _-_, _*_, _≤_}
+use Prim.Native.Nat.{ℕ, zero, suc, _+_, _-_, _*_, _≤_}
+use native.Mathlib.Nat.{suc-mul}
 use native.Mathlib.Omega.{arith}
 use mathlib.Core.Bool.{false}
 use mathlib.Core.List.{List}
@@ -19,6 +20,14 @@ use Rattle.session.proofs.Strips.{Partly, partly-none, partly-more, partly-all,
 use Rattle.slopes.specs.Slopes.{edgesChange}
 use Rattle.slopes.proofs.Parts.{change-parts}
 use Rattle.kept_slopes.specs.Edges.{edged}
+
+-- the rows behind the first are one fewer
+pub one-less : (n c : ℕ) → 1 ≤ n → n * c - c ≡ (n - 1) * c
+one-less zero c h = absurd (omega arith)
+one-less (suc n) c h =
+    let e : suc n * c ≡ n * c + c = suc-mul n c in
+    let m : suc n - 1 ≡ n = omega arith in
+    rw (e, m) (omega arith)
 
 module _ (x : Source) (h w : ℕ) where
   -- a slanted shape of height h and width w

@@ -10,7 +10,7 @@ use lib.IntN.{ℤ, pos, _+ℤ_, _-ℤ_}
 use Rattle.numbers.specs.Grid.{tabulate}
 use Rattle.numbers.specs.Wrap.{wrap}
 use Rattle.picture.specs.Size.{sizeLegal, cells}
-use Rattle.picture.specs.Window.{shapeOf, isRectangle}
+use Rattle.picture.specs.Window.{shapeOf, isRectangle, height, width}
 use Rattle.picture.specs.Picture.{Source, Inputs, Levels, planeAt}
 use Rattle.slopes.specs.Slopes.{padded, rising, falling, edgesChange}
 use Rattle.slopes.specs.Leans.{Blank, Holds}
@@ -110,5 +110,25 @@ pub record ManyAsked (x : Inputs) (i n : ℕ) (work out : List ℤ) : Type 0 whe
   pub inputs : Checked x
   pub slanted : isRectangle (shapeOf (x .window)) ≡ false
   pub rows : i + n < x .source .size .rows
+  pub room-work : length work ≡ x .source .size .columns
+  pub room : length out ≡ n * x .source .size .columns
+
+-- ---- many rows of planes of levels
+-- the same with the slopes of row i, and the row that leaves in the middle
+pub record AfterAsked (x : Inputs) (i n : ℕ) (a b c rises falls work out : List ℤ) : Type 0 where
+  pub plane : x .source .plane ≤ 2
+  pub many : ManyAsked x i n work out
+  pub rows : Rows (x .source .size .columns) a b c
+  pub slopes : Slopes (padded (planeAt (x .source))) (x .source .size .columns) (width (shapeOf (x .window))) (height (shapeOf (x .window))) (128 + i) 0 rises falls
+  pub leaving : Holds c (padded (planeAt (x .source)) (128 + i - height (shapeOf (x .window))))
+
+-- checked inputs with a window that has slopes, the first rows of the picture, one at least, a work area, and room for those rows
+pub record FreshAsked (x : Inputs) (n : ℕ) (work out : List ℤ) : Type 0 where
+  pub inputs : Checked x
+  pub plane : x .source .plane ≤ 2
+  pub slanted : isRectangle (shapeOf (x .window)) ≡ false
+  pub high : 1 ≤ height (shapeOf (x .window))
+  pub some : 1 ≤ n
+  pub rows : n ≤ x .source .size .rows
   pub room-work : length work ≡ x .source .size .columns
   pub room : length out ≡ n * x .source .size .columns

@@ -2,9 +2,8 @@
 use borrow.Author.Needs.{needs}
 use mathlib.Core.Path.{_≡_, refl, sym, _∙_, ap, subst}
 use mathlib.Core.List.{List}
-use Prim.Native.Nat.{ℕ, zero, suc, _+_, _-_, _*_, _≤_}
+use Prim.Native.Nat.{ℕ, suc, _+_, _-_, _*_, _≤_}
 use native.Mathlib.Omega.{arith}
-use native.Mathlib.Nat.{suc-mul}
 use lib.IntN.{ℤ}
 use lib.ListN.{length}
 use borrow.Rule.Slice.PartMut.{putMid}
@@ -14,19 +13,13 @@ use Rattle.picture.specs.Window.{shapeOf}
 use Rattle.picture.specs.Picture.{source, planeAt}
 use Rattle.session.specs.Rows.{strip, Advanced, outputRow}
 use Rattle.session.proofs.Strips.{two-parts, first-and-rest}
+use Rattle.kept_slopes.proofs.Advances.{one-less}
 use Rattle.advance.proofs.by_edges.Statement.{statement}
 use Rattle.advance.proofs.by_edges.Tie as tie
 
 -- the first row fits the output area, and the others are one fewer
 fits : (s : tie.Start) → s .args .size .columns ≤ length (s .args .out .now)
 fits s = omega (arith, s .pre .many .room, line-end 0 (s .args .n) (s .args .size .columns) (s .pre .some))
-
-one-less : (n c : ℕ) → 1 ≤ n → n * c - c ≡ (n - 1) * c
-one-less zero c h = absurd (omega arith)
-one-less (suc n) c h =
-    let e : suc n * c ≡ n * c + c = suc-mul n c in
-    let m : suc n - 1 ≡ n = omega arith in
-    rw (e, m) (omega arith)
 
 others : (s : tie.Start) → length (s .args .out .now) - s .args .size .columns ≡ (s .args .n - 1) * s .args .size .columns
 others s = ap (λ (m : ℕ). m - s .args .size .columns) (s .pre .many .room) ∙ one-less (s .args .n) (s .args .size .columns) (s .pre .some)
