@@ -35,5 +35,5 @@ pub record FromTop (position : ℕ) (w : Window) (plane n : ℕ) (answer : Bool)
   pub first : T answer → position ≡ 0
   pub slanted : T answer → isRectangle (shapeOf w) ≡ false
   pub high : T answer → 1 ≤ height (shapeOf w)
-  pub plane : T answer → plane ≤ 2
+  pub level : T answer → plane ≤ 2
   pub some : T answer → 1 ≤ n
