@@ -1,7 +1,7 @@
 #!/usr/bin/env python3
 """Holds the C header to the library's source and to the Rust binding: every declaration and every constant.
 
-Then it damages copies of the three in memory, and fails where a damaged copy passes.
+Then it damages copies of them in memory, and fails where a damaged copy passes.
 """
 import re
 import sys
@@ -217,6 +217,7 @@ DAMAGES = [
     ("a function not exported", SOURCE, r"#\[no_mangle\]\s*", ""),
     ("another width", SOURCE, r"table: &\[i64\]", "table: &[i32]"),
     ("a slice that is written", SOURCE, r"text: &\[u8\]", "text: &mut [u8]"),
+    ("another status", REPLIES, r"EMPTY: i32 = -1", "EMPTY: i32 = -4"),
     ("two parameters exchanged", BINDING, r"n: i64, s: i64", "s: i64, n: i64"),
     ("an area that is only read", BINDING, r"work: \*mut i64", "work: *const i64"),
     ("a function missing", BINDING, r"fn ls_panel\([^;]*;", ""),
