@@ -1,4 +1,4 @@
--- `c_sums::ls_read` meets its contract. Assumes nothing.
+-- `c_table::ls_read` meets its contract. Assumes nothing.
 use borrow.Author.Needs.{needs}
 use mathlib.Core.Path.{_≡_, refl, sym, ap, _∙_}
 use lib.IntN.{ℤ}
@@ -13,8 +13,8 @@ use Rattle.cumulative.specs.Table.{readCall}
 use Rattle.replies.specs.Reply.{withValue}
 use Rattle.replies.proofs.Numbers.{read-small, small-fits}
 use Rattle.replies.proofs.Replies.{refused-returns, value-returns}
-use Rattle.c_sums.proofs.ls_read.Statement.{statement}
-use Rattle.c_sums.proofs.ls_read.Tie as tie
+use Rattle.c_table.proofs.ls_read.Statement.{statement}
+use Rattle.c_table.proofs.ls_read.Tie as tie
 
 -- what was asked, and what it answered
 abbrev asked : tie.After-read → Outcome ℤ

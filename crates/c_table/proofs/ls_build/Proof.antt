@@ -1,4 +1,4 @@
--- `c_sums::ls_build` meets its contract. Assumes nothing.
+-- `c_table::ls_build` meets its contract. Assumes nothing.
 use borrow.Author.Needs.{needs}
 use mathlib.Core.Path.{_≡_, refl, sym, ap, _∙_}
 use mir.Facts.{toZ-ofZ}
@@ -10,8 +10,8 @@ use Rattle.cumulative.specs.Table.{buildCall}
 use Rattle.replies.specs.Reply.{withValue}
 use Rattle.replies.proofs.Numbers.{build-small, small-fits}
 use Rattle.replies.proofs.Replies.{refused-returns, value-returns}
-use Rattle.c_sums.proofs.ls_build.Statement.{statement}
-use Rattle.c_sums.proofs.ls_build.Tie as tie
+use Rattle.c_table.proofs.ls_build.Statement.{statement}
+use Rattle.c_table.proofs.ls_build.Tie as tie
 
 -- what was asked, what it answered, and what it left in the area
 abbrev asked : tie.After-build → Filling

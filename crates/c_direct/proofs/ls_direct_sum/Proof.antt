@@ -1,4 +1,4 @@
--- `c_sums::ls_direct_sum` meets its contract. Assumes nothing.
+-- `c_direct::ls_direct_sum` meets its contract. Assumes nothing.
 use borrow.Author.Needs.{needs}
 use mathlib.Core.Path.{_≡_, refl, sym, ap, _∙_}
 use lib.IntN.{ℤ}
@@ -14,8 +14,8 @@ use Rattle.picture.specs.Answers.{sumOutcome}
 use Rattle.replies.specs.Reply.{withValue}
 use Rattle.replies.proofs.Numbers.{direct-small, small-fits}
 use Rattle.replies.proofs.Replies.{refused-returns, value-returns}
-use Rattle.c_sums.proofs.ls_direct_sum.Statement.{statement}
-use Rattle.c_sums.proofs.ls_direct_sum.Tie as tie
+use Rattle.c_direct.proofs.ls_direct_sum.Statement.{statement}
+use Rattle.c_direct.proofs.ls_direct_sum.Tie as tie
 
 -- what was asked, and what it answered
 abbrev asked : tie.After-direct-sum → Outcome ℤ
