@@ -1,7 +1,7 @@
 #!/usr/bin/env python3
 """Holds the C header to the library's source and to the Rust binding: every declaration and every constant.
 
-Then it damages copies of the three in memory, and fails where a damaged copy passes.
+Then it damages copies of them in memory, and fails where a damaged copy passes.
 """
 import re
 import sys
@@ -9,7 +9,8 @@ from pathlib import Path
 
 ROOT = Path(__file__).resolve().parent.parent
 HEADER = "include/local_statistics.h"
-SOURCE = "crates/capi/src/*.rt"
+SOURCE = "crates/c_*/src/*.rt"
+REPLIES = "crates/replies/src/*.rt"
 BINDING = "bindings/rust/src/calls.rs"
 TYPES = "bindings/rust/src/types.rs"
 REFUSALS = "bindings/rust/src/refusal.rs"
@@ -42,9 +43,9 @@ CONSTANTS = {
     "LS_REFUSED_AREA": [(CONDITIONS, "@ when not (eqb given wanted)"), (REFUSALS, " Area = @,")],
     "LS_REFUSED_SUMS": [(SIX_SUMS, "(@ when impossible z)"), (REFUSALS, " Sums = @,")],
     "LS_REFUSED_TEXT": [(PANEL, "framed z w none = refused @")],
-    "LS_EMPTY": [(SOURCE, "const EMPTY: i32 = @;"), (BINDING, "const EMPTY: i32 = @;")],
-    "LS_FLAT": [(SOURCE, "const FLAT: i32 = @;"), (BINDING, "const FLAT: i32 = @;")],
-    "LS_NOWHERE": [(SOURCE, "const NOWHERE: i32 = @;"), (BINDING, "const NOWHERE: i32 = @;")],
+    "LS_EMPTY": [(REPLIES, "const EMPTY: i32 = @;"), (BINDING, "const EMPTY: i32 = @;")],
+    "LS_FLAT": [(REPLIES, "const FLAT: i32 = @;"), (BINDING, "const FLAT: i32 = @;")],
+    "LS_NOWHERE": [(REPLIES, "const NOWHERE: i32 = @;"), (BINDING, "const NOWHERE: i32 = @;")],
     "LS_RECTANGLE": [(CHECKS, "if shape == @ { return rectangle_legal("), (TYPES, "shape: @, first: a, second: b")],
     "LS_DIAMOND": [(CHECKS, "if shape == @ { return diamond_legal("), (TYPES, "shape: @, first: r, second: 0")],
     "LS_HEXAGON": [(CHECKS, "if shape == @ { return hexagon_legal("), (TYPES, "shape: @, first: k, second: h")],
@@ -54,8 +55,8 @@ CONSTANTS = {
     "LS_PLANE_F_SQUARED": [(SIX_SUMS, " a = directSum (onPlane x @)"), (TYPES, "F_SQUARED: Plane = Plane(@)")],
     "LS_PLANE_G_SQUARED": [(SIX_SUMS, " b = directSum (onPlane x @)"), (TYPES, "G_SQUARED: Plane = Plane(@)")],
     "LS_PLANE_PRODUCT": [(SIX_SUMS, " p = directSum (onPlane x @)"), (TYPES, "PRODUCT: Plane = Plane(@)")],
-    "LS_STEADY": [(SOURCE, "const STEADY: u32 = @;"), (BINDING, "const STEADY: u32 = @;")],
-    "LS_GRAINY": [(SOURCE, "const GRAINY: u32 = @;")],
+    "LS_STEADY": [(REPLIES, "const STEADY: u32 = @;"), (BINDING, "const STEADY: u32 = @;")],
+    "LS_GRAINY": [(REPLIES, "const GRAINY: u32 = @;")],
     "LS_MAX_ROWS": [("crates/picture/specs/Size.antt", "leb (z .rows) @"), (TYPES, "MAX_ROWS: usize = @;")],
     "LS_MAX_COLUMNS": [("crates/picture/specs/Size.antt", "leb (z .columns) @"), (TYPES, "MAX_COLUMNS: usize = @;")],
     "LS_MAX_DOWN": [("crates/picture/specs/Picture.antt", "(pos @) (d .down)"), (TYPES, "MAX_DOWN: i32 = @;")],
@@ -216,6 +217,7 @@ DAMAGES = [
     ("a function not exported", SOURCE, r"#\[no_mangle\]\s*", ""),
     ("another width", SOURCE, r"table: &\[i64\]", "table: &[i32]"),
     ("a slice that is written", SOURCE, r"text: &\[u8\]", "text: &mut [u8]"),
+    ("another status", REPLIES, r"EMPTY: i32 = -1", "EMPTY: i32 = -4"),
     ("two parameters exchanged", BINDING, r"n: i64, s: i64", "s: i64, n: i64"),
     ("an area that is only read", BINDING, r"work: \*mut i64", "work: *const i64"),
     ("a function missing", BINDING, r"fn ls_panel\([^;]*;", ""),

@@ -1,3 +1,0 @@
-mod Numbers
-mod Replies
-pub mod Examples
