@@ -1,12 +1,10 @@
 // Statistics of the six sums of generated pictures, and of the sums that document 01 names, beside the rival's.
 use crate::answers;
-use crate::lists;
 use rival::moments as rivals;
 use statistics::Sums;
 use trial_cases::cases;
 use trial_cases::cases::Case;
 use trial_cases::places;
-use trial_tools::areas;
 use trial_tools::random;
 use trial_tools::tally;
 use trial_tools::tally::Tally;
@@ -144,97 +142,41 @@ fn of_cases(trials: usize) -> Tally {
     t
 }
 
-// The sums of document 01's list, and of its shortcuts that sound wrong.
-fn named() -> Tally {
-    let list = [
-        9i64,
-        45,
-        45,
-        285,
-        285,
-        285, //
-        4,
-        12,
-        12,
-        46,
-        46,
-        46, //
-        5,
-        25,
-        25,
-        145,
-        145,
-        145, //
-        2,
-        -1,
-        -1,
-        1,
-        1,
-        1, //
-        2,
-        -3,
-        -3,
-        5,
-        5,
-        5, //
-        3,
-        -5,
-        -5,
-        9,
-        9,
-        9, //
-        2,
-        -1,
-        -1,
-        2147418113,
-        2147418113,
-        2147418113, //
-        3,
-        6,
-        12,
-        14,
-        56,
-        28, //
-        3,
-        6,
-        6,
-        14,
-        14,
-        10, //
-        3,
-        6,
-        6,
-        14,
-        14,
-        13, //
-        3,
-        6,
-        12,
-        14,
-        48,
-        24, //
-        3,
-        1,
-        1,
-        11,
-        11,
-        11, //
-        0,
-        0,
-        0,
-        0,
-        0,
-        0, //
-    ];
-    all(&list, 13)
+pub fn sums(z: [i64; 6]) -> Sums {
+    Sums {
+        n: z[0],
+        s: z[1],
+        t: z[2],
+        a: z[3],
+        b: z[4],
+        p: z[5],
+    }
 }
 
-// All sums of a list.
-fn all(list: &[i64], count: usize) -> Tally {
+// The sums of document 01's list, and of its shortcuts that sound wrong.
+fn named(k: usize) -> [i64; 6] {
+    match k {
+        0 => [9, 45, 45, 285, 285, 285],
+        1 => [4, 12, 12, 46, 46, 46],
+        2 => [5, 25, 25, 145, 145, 145],
+        3 => [2, -1, -1, 1, 1, 1],
+        4 => [2, -3, -3, 5, 5, 5],
+        5 => [3, -5, -5, 9, 9, 9],
+        6 => [2, -1, -1, 2147418113, 2147418113, 2147418113],
+        7 => [3, 6, 12, 14, 56, 28],
+        8 => [3, 6, 6, 14, 14, 10],
+        9 => [3, 6, 6, 14, 14, 13],
+        10 => [3, 6, 12, 14, 48, 24],
+        11 => [3, 1, 1, 11, 11, 11],
+        _ => [0, 0, 0, 0, 0, 0],
+    }
+}
+
+fn all_named(count: usize) -> Tally {
     let mut t = tally::fresh();
     let mut k = 0usize;
     while k < count {
-        t = of_sums(lists::sums(list, k), t);
+        t = of_sums(sums(named(k)), t);
         k += 1;
     }
     t
@@ -247,65 +189,46 @@ fn known(z: Sums, value: i64, t: Tally) -> Tally {
 }
 
 // 65,024 cells, half of them 32,767 and half -32,767 in each picture: S and T are 0, so c is the largest with c·A ≤ 1,000·P, while
-// c²·Vf·Vg passes 128 bits. The list has ten numbers P, and then the ten c.
-fn known_of(list: &[i64], count: usize) -> Tally {
+// c²·Vf·Vg passes 128 bits. P, and c.
+fn wide(k: usize) -> [i64; 2] {
+    match k {
+        0 => [69814727015936, 1000],
+        1 => [-69814727015936, -1000],
+        2 => [34907363507968, 500],
+        3 => [34907363507967, 499],
+        4 => [-52361045261952, -750],
+        5 => [69744912288921, 999],
+        6 => [69744912288920, 998],
+        7 => [69814727016, 1],
+        8 => [69814727015, 0],
+        _ => [-1, 0],
+    }
+}
+
+fn all_wide(count: usize) -> Tally {
     let mut t = tally::fresh();
     let mut k = 0usize;
     while k < count {
-        let z = Sums {
-            n: 65024,
-            s: 0,
-            t: 0,
-            a: 69814727015936,
-            b: 69814727015936,
-            p: areas::number(list, k),
-        };
-        t = known(
-            z,
-            areas::number(list, std::num::wrapping_add_usize(k, count)),
-            t,
-        );
+        let x = wide(k);
+        let z = sums([65024, 0, 0, 69814727015936, 69814727015936, x[0]]);
+        t = known(z, x[1], t);
         k += 1;
     }
     t
 }
 
-fn wide() -> Tally {
-    let list = [
-        69814727015936i64,
-        -69814727015936,
-        34907363507968,
-        34907363507967,
-        -52361045261952,
-        69744912288921,
-        69744912288920,
-        69814727016,
-        69814727015,
-        -1, //
+// The same with the levels -32,768 and 32,767.
+fn widest(t: Tally) -> Tally {
+    let square = 69816857689856i64;
+    known(
+        sums([65024, -32512, -32512, square, square, square]),
         1000,
-        -1000,
-        500,
-        499,
-        -750,
-        999,
-        998,
-        1,
-        0,
-        0, //
-    ];
-    let z = Sums {
-        n: 65024,
-        s: -32512,
-        t: -32512,
-        a: 69816857689856,
-        b: 69816857689856,
-        p: 69816857689856,
-    };
-    known(z, 1000, known_of(&list, 10))
+        t,
+    )
 }
 
 pub fn run() {
-    tally::print(b"named sums", named());
-    tally::print(b"sums of the largest windows", wide());
+    tally::print(b"named sums", all_named(13));
+    tally::print(b"sums of the largest windows", widest(all_wide(10)));
     tally::print(b"sums of pictures", of_cases(360));
 }

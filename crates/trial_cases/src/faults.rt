@@ -37,203 +37,92 @@ fn line(x: Faults, number: usize) -> usize {
     4
 }
 
-// A natural input: rows, columns, the lengths of f and g, shape, plane, row, column, position, request, and the lengths of the
-// work and output areas.
-fn natural(x: Faults, input: usize) -> usize {
-    let n = input % 12;
-    let numbers = [1usize, 1, 2, 2, 3, 5, 6, 6, 7, 7, 8, 8];
-    let table = [
-        0usize,
-        7,
-        36,
-        35,
-        0,
-        6,
-        5,
-        2,
-        6,
-        0,
-        7,
-        36, //
-        257,
-        7,
-        34,
-        35,
-        2,
-        7,
-        3,
-        7,
-        3,
-        3,
-        7,
-        34, //
-        5,
-        0,
-        0,
-        0,
-        1,
-        4294967295,
-        18446744073709551615,
-        0,
-        0,
-        6,
-        8,
-        35, //
-        5,
-        1025,
-        35,
-        36,
-        3,
-        65536,
-        0,
-        35,
-        18446744073709551615,
-        5,
-        6,
-        35, //
-        5,
-        7,
-        35,
-        35,
-        1,
-        3,
-        3,
-        2,
-        0,
-        5,
-        7,
-        35, //
-    ];
-    let k = line(x, numbers[n]) % 5 * 12 + n;
-    table[k]
+const MOST: usize = 18446744073709551615;
+
+// The natural inputs of a form: rows, columns, the lengths of f and g, shape, plane, row, column, position, request, and the lengths
+// of the work and output areas.
+fn naturals(form: usize) -> [usize; 12] {
+    match form {
+        0 => [0, 7, 36, 35, 0, 6, 5, 2, 6, 0, 7, 36],
+        1 => [257, 7, 34, 35, 2, 7, 3, 7, 3, 3, 7, 34],
+        2 => [5, 0, 0, 0, 1, 4294967295, MOST, 0, 0, 6, 8, 35],
+        3 => [5, 1025, 35, 36, 3, 65536, 0, 35, MOST, 5, 6, 35],
+        _ => [5, 7, 35, 35, 1, 3, 3, 2, 0, 5, 7, 35],
+    }
 }
 
-// A whole input: the window's two numbers, and the shift down and right.
-fn whole(x: Faults, input: usize) -> i32 {
-    let n = input % 4;
-    let numbers = [3usize, 3, 4, 4];
-    let table = [
-        1i32,
-        1,
-        256,
-        0, //
-        1,
-        1,
-        -256,
-        0, //
-        -1,
-        3,
-        0,
-        1024, //
-        64,
-        64,
-        0,
-        -1024, //
-        1,
-        2,
-        1,
-        -1, //
-    ];
-    let k = line(x, numbers[n]) % 5 * 4 + n;
-    table[k]
+// The whole inputs of a form: the window's two numbers, and the shift down and right.
+fn wholes(form: usize) -> [i32; 4] {
+    match form {
+        0 => [1, 1, 256, 0],
+        1 => [1, 1, -256, 0],
+        2 => [-1, 3, 0, 1024],
+        3 => [64, 64, 0, -1024],
+        _ => [1, 2, 1, -1],
+    }
+}
+
+// An input by the faults of its number.
+fn natural(x: Faults, number: usize, input: usize) -> usize {
+    let n = naturals(line(x, number));
+    let k = input % 12;
+    n[k]
+}
+
+fn whole(x: Faults, number: usize, input: usize) -> i32 {
+    let n = wholes(line(x, number));
+    let k = input % 4;
+    n[k]
 }
 
 // The call with two faults; one without them is taken by every operation.
 pub fn made(x: Faults) -> Call {
     Call {
         size: Size {
-            rows: natural(x, 0),
-            columns: natural(x, 1),
+            rows: natural(x, 1, 0),
+            columns: natural(x, 1, 1),
         },
-        f: natural(x, 2),
-        g: natural(x, 3),
+        f: natural(x, 2, 2),
+        g: natural(x, 2, 3),
         window: Window {
-            shape: (natural(x, 4) % 4294967296) as u32,
-            first: whole(x, 0),
-            second: whole(x, 1),
+            shape: (natural(x, 3, 4) % 4294967296) as u32,
+            first: whole(x, 3, 0),
+            second: whole(x, 3, 1),
         },
         shift: Shift {
-            down: whole(x, 2),
-            right: whole(x, 3),
+            down: whole(x, 4, 2),
+            right: whole(x, 4, 3),
         },
-        plane: (natural(x, 5) % 4294967296) as u32,
+        plane: (natural(x, 5, 5) % 4294967296) as u32,
         cell: Cell {
-            row: natural(x, 6),
-            column: natural(x, 7),
+            row: natural(x, 6, 6),
+            column: natural(x, 6, 7),
         },
-        position: natural(x, 8),
-        request: natural(x, 9),
-        work: natural(x, 10),
-        out: natural(x, 11),
+        position: natural(x, 7, 8),
+        request: natural(x, 7, 9),
+        work: natural(x, 8, 10),
+        out: natural(x, 8, 11),
     }
 }
 
-// How many of a fault's forms an operation refuses, 0 where it lacks the input: a line an operation, the direct sum, building,
-// reading, the row call, smoothing and the steady search; a column a number from 0 to 8.
-fn forms(operation: usize, number: usize) -> usize {
-    let n = operation % 6 * 9 + number % 9;
-    let table = [
-        0usize,
-        4,
-        4,
-        4,
-        4,
-        4,
-        4,
-        0,
-        0, //
-        0,
-        4,
-        4,
-        0,
-        4,
-        4,
-        0,
-        0,
-        2, //
-        0,
-        4,
-        0,
-        4,
-        0,
-        0,
-        4,
-        0,
-        2, //
-        0,
-        4,
-        4,
-        4,
-        4,
-        4,
-        0,
-        4,
-        4, //
-        0,
-        4,
-        3,
-        4,
-        0,
-        0,
-        0,
-        0,
-        2, //
-        0,
-        4,
-        4,
-        4,
-        4,
-        0,
-        0,
-        0,
-        0, //
-    ];
-    table[n]
+// How many of the forms of each fault, from 0 to 8, an operation refuses, 0 where it lacks the input: the direct sum, building,
+// reading, the row call, smoothing and the steady search.
+fn forms(operation: usize) -> [usize; 9] {
+    match operation {
+        0 => [0, 4, 4, 4, 4, 4, 4, 0, 0],
+        1 => [0, 4, 4, 0, 4, 4, 0, 0, 2],
+        2 => [0, 4, 0, 4, 0, 0, 4, 0, 2],
+        3 => [0, 4, 4, 4, 4, 4, 0, 4, 4],
+        4 => [0, 4, 3, 4, 0, 0, 0, 0, 2],
+        _ => [0, 4, 4, 4, 4, 0, 0, 0, 0],
+    }
 }
 
 // The number by which an operation is to refuse a fault, and 99 where it does not look at it.
 fn refusing(operation: usize, number: usize, form: usize) -> u64 {
-    if form < forms(operation, number) {
+    let refused = forms(operation);
+    let n = number % 9;
+    if form < refused[n] {
         return number as u64;
     }
     99

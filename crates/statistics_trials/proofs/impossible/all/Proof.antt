@@ -5,16 +5,19 @@ use Rattle.statistics_trials.proofs.impossible.all.Statement.{statement
 use Rattle.statistics_trials.proofs.impossible.all.Tie as tie
 
 abbrev Inv-loop : tie.InvT-loop
-Inv-loop list count number t₀ k₀ t k = 0 ≤ k
+Inv-loop from to number t₀ k₀ t k = 0 ≤ k
 
 abbrev μ-loop : tie.MeasureT-loop
-μ-loop list count number t₀ k₀ t k = count - k
+μ-loop from to number t₀ k₀ t k = to - k
 
 fresh-requires : tie.Need-fresh-requires Inv-loop μ-loop
 fresh-requires c κs = search needs
 
 loop-holds : tie.Need-loop-holds Inv-loop μ-loop
 loop-holds c = search needs
+
+listed-requires : tie.Need-listed-requires Inv-loop μ-loop
+listed-requires c κs = search needs
 
 sums-requires : tie.Need-sums-requires Inv-loop μ-loop
 sums-requires c κs = search needs
@@ -42,6 +45,7 @@ all-spec =
     μ-loop
     fresh-requires
     loop-holds
+    listed-requires
     sums-requires
     refused-requires
     add-k
