@@ -37,50 +37,38 @@ fn rectangle(c: Case, table: &[i64], top: usize, bottom: usize, left: usize, rig
     machine::wrapping_sub(inner, outer)
 }
 
-// The one-row rectangle of row m in a diamond or hexagon on (i, j) of half height h, k + h columns wide at its middle.
-fn row(c: Case, table: &[i64], i: usize, j: usize, m: usize, h: usize, reach: usize) -> i64 {
+// The one-row rectangle of row m in a diamond or hexagon on (i, j).
+fn row(c: Case, table: &[i64], i: usize, j: usize, m: usize) -> i64 {
     let p = crate::distance(m, i);
-    if p > h {
+    if p > crate::height(c) {
         return 0;
     }
-    let q = less(reach, p);
+    let q = less(crate::reach(c), p);
     rectangle(c, table, m, behind(m, 0), less(j, q), behind(j, q))
 }
 
 // "A diamond or hexagon is read as one-row rectangles."
-fn row_by_row(c: Case, table: &[i64], i: usize, j: usize, h: usize, reach: usize) -> i64 {
+fn row_by_row(c: Case, table: &[i64], i: usize, j: usize) -> i64 {
     let rows = c.rows;
     let mut s = 0i64;
     let mut m = 0usize;
     while m < rows {
-        s = machine::wrapping_add(s, row(c, table, i, j, m, h, reach));
+        s = machine::wrapping_add(s, row(c, table, i, j, m));
         m += 1;
     }
     s
 }
 
 pub fn reading(c: Case, table: &[i64], i: usize, j: usize) -> i64 {
-    let first = c.first;
-    let second = c.second;
-    if c.shape == 1 {
-        return rectangle(
-            c,
-            table,
-            less(i, first),
-            behind(i, first),
-            less(j, second),
-            behind(j, second),
-        );
+    if c.shape != 1 {
+        return row_by_row(c, table, i, j);
     }
-    if c.shape == 2 {
-        return row_by_row(c, table, i, j, first, first);
-    }
-    row_by_row(
+    rectangle(
         c,
         table,
-        i,
-        j,
-        second,
-        std::num::wrapping_add_usize(first, second),
+        less(i, c.first),
+        behind(i, c.first),
+        less(j, c.second),
+        behind(j, c.second),
     )
 }

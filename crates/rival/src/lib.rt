@@ -10,22 +10,33 @@ pub fn distance(a: usize, b: usize) -> usize {
     if a < b { b - a } else { a - b }
 }
 
-// Whether a window holds the cell p rows and q columns away, |p| and |q| given.
-pub fn holds(shape: u32, first: usize, second: usize, p: usize, q: usize) -> bool {
-    let both = std::num::wrapping_add_usize(p, q);
-    if shape == 1 {
-        if p > first {
+// The half height of a diamond or hexagon, and the distance to which its rows reach.
+pub fn height(c: Case) -> usize {
+    if c.shape == 2 { c.first } else { c.second }
+}
+
+pub fn reach(c: Case) -> usize {
+    if c.shape == 2 {
+        c.first
+    } else {
+        std::num::wrapping_add_usize(c.first, c.second)
+    }
+}
+
+// Whether the window on (i, j) holds the cell (m, n).
+fn holds(c: Case, i: usize, j: usize, m: usize, n: usize) -> bool {
+    let p = distance(m, i);
+    let q = distance(n, j);
+    if c.shape == 1 {
+        if p > c.first {
             return false;
         }
-        return q <= second;
+        return q <= c.second;
     }
-    if shape == 2 {
-        return both <= first;
-    }
-    if p > second {
+    if p > height(c) {
         return false;
     }
-    both <= std::num::wrapping_add_usize(first, second)
+    std::num::wrapping_add_usize(p, q) <= reach(c)
 }
 
 // The plane's value at a counting cell, where f and g have these levels.
@@ -48,28 +59,24 @@ fn plane_value(plane: u32, f: i16, g: i16) -> i64 {
     machine::product(f, g)
 }
 
-// "A cell (m, n) counts when it and (m+u, n+v) are both inside the picture." "At every other cell it is 0."
+// Where a shift, raised by its limit, leads from row or column n of so many, and their number where that is outside.
+fn shifted(n: usize, raised: usize, limit: usize, count: usize) -> usize {
+    let to = std::num::wrapping_add_usize(n, raised);
+    if to < limit {
+        return count;
+    }
+    if to - limit < count {
+        to - limit
+    } else {
+        count
+    }
+}
+
+// "A cell (m, n) counts when it and (m+u, n+v) are both inside the picture." "At every other cell it is 0." The column n is inside.
 pub fn value(c: Case, f: &[i16], g: &[i16], m: usize, n: usize) -> i64 {
-    if m >= c.rows {
-        return 0;
-    }
-    if n >= c.columns {
-        return 0;
-    }
-    let raised_row = std::num::wrapping_add_usize(m, c.down);
-    let raised_column = std::num::wrapping_add_usize(n, c.right);
-    if raised_row < 255 {
-        return 0;
-    }
-    if raised_column < 1023 {
-        return 0;
-    }
-    let row = raised_row - 255;
-    let column = raised_column - 1023;
-    if row >= c.rows {
-        return 0;
-    }
-    if column >= c.columns {
+    let row = shifted(m, c.down, 255, c.rows);
+    let column = shifted(n, c.right, 1023, c.columns);
+    if m >= c.rows || row >= c.rows || column >= c.columns {
         return 0;
     }
     plane_value(
@@ -79,18 +86,9 @@ pub fn value(c: Case, f: &[i16], g: &[i16], m: usize, n: usize) -> i64 {
     )
 }
 
-// The cell (m, n) where the sum at (i, j) takes it, and else 0. Shape 0 is the table's: rows up to i, and columns up to j.
+// The cell (m, n) where the sum at (i, j) takes it, and else 0.
 fn taken(c: Case, f: &[i16], g: &[i16], i: usize, j: usize, m: usize, n: usize) -> i64 {
-    if c.shape == 0 {
-        if m > i {
-            return 0;
-        }
-        if n > j {
-            return 0;
-        }
-        return value(c, f, g, m, n);
-    }
-    if holds(c.shape, c.first, c.second, distance(m, i), distance(n, j)) {
+    if holds(c, i, j, m, n) {
         return value(c, f, g, m, n);
     }
     0
@@ -120,11 +118,20 @@ pub fn sum(c: Case, f: &[i16], g: &[i16], i: usize, j: usize) -> i64 {
     s
 }
 
-// "T(i, j) = the plane's sum over all (p, q) with p ≤ i and q ≤ j"
+// The sum of another plane.
+pub fn plane_sum(case: Case, plane: u32, f: &[i16], g: &[i16], i: usize, j: usize) -> i64 {
+    let mut c = case;
+    c.plane = plane;
+    sum(c, f, g, i, j)
+}
+
+// "T(i, j) = the plane's sum over all (p, q) with p ≤ i and q ≤ j": over the rectangle of these numbers on (0, 0).
 pub fn entry(case: Case, f: &[i16], g: &[i16], i: usize, j: usize) -> i64 {
     let mut c = case;
-    c.shape = 0;
-    sum(c, f, g, i, j)
+    c.shape = 1;
+    c.first = i;
+    c.second = j;
+    sum(c, f, g, 0, 0)
 }
 
 // A rectangle's column sum over rows i-a to i+a; a diamond's or hexagon's window sum.

@@ -69,46 +69,29 @@ fn with_bit(d: u64, bit: u64, scale: u64, most: u64) -> u64 {
     d
 }
 
-// The largest d below 65,536 with d² · scale ≤ most.
-pub fn root(scale: u64, most: u64) -> u64 {
-    let bits = 16usize;
+// The largest d with d² · scale ≤ most, of those below twice the bit.
+pub fn root(highest: u64, scale: u64, most: u64) -> u64 {
     let mut d = 0u64;
-    let mut bit = 32768u64;
-    let mut k = 0usize;
-    while k < bits {
+    let mut bit = highest;
+    while bit > 0 {
         d = with_bit(d, bit, scale, most);
         bit = bit / 2;
-        k += 1;
     }
     d
 }
 
 pub fn deviation(n: i64, vf: u64) -> u64 {
-    root(squared(machine::magnitude(n)), vf)
+    root(32768, squared(machine::magnitude(n)), vf)
 }
 
 // "the sign of C times the largest whole c .. with c²·Vf·Vg ≤ 1,000,000·C²", where 64 bits hold c² · Vf · Vg for c below 1,024.
 pub fn coefficient(vf: u64, vg: u64, c: i64) -> i64 {
     let most = product(1000000, squared(machine::magnitude(c)));
-    let size = (small_root(product(vf, vg), most) % 4294967296) as i64;
+    let size = (root(512, product(vf, vg), most) % 4294967296) as i64;
     if c < 0 {
         return machine::wrapping_sub(0, size);
     }
     size
-}
-
-// The largest c below 1,024 with c² · scale ≤ most.
-fn small_root(scale: u64, most: u64) -> u64 {
-    let bits = 10usize;
-    let mut d = 0u64;
-    let mut bit = 512u64;
-    let mut k = 0usize;
-    while k < bits {
-        d = with_bit(d, bit, scale, most);
-        bit = bit / 2;
-        k += 1;
-    }
-    d
 }
 
 // The level of a mean raised by 32,768.

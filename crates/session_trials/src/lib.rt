@@ -1,7 +1,7 @@
 // Row sessions beside the rival's: lists of calls from a fresh session, and from foreign positions and work areas.
 use rival::recurrence;
+use rival::recurrence::Begun;
 use rows::Moved;
-use rows::RowsAnswer;
 use trial_cases::cases;
 use trial_cases::cases::Case;
 use trial_cases::places;
@@ -19,9 +19,11 @@ struct Asked {
     out: usize,
 }
 
-// Where a list of calls stands.
+// Where a list of calls stands: its position, and both areas.
 struct Stand {
     position: usize,
+    work: [i64; 5200],
+    out: [i64; 5200],
     tally: Tally,
 }
 
@@ -85,32 +87,39 @@ fn refusal(c: Case, position: usize, a: Asked) -> u64 {
     0
 }
 
-// The library's call on the fronts of the areas; refused by no number where they lack the room.
+// The answer and the position of a call, beside the rival's.
+fn compare_answer(moved: Moved, position: usize, request: usize, refused: u64, t: Tally) -> Tally {
+    let answer = moved.answer;
+    let seen = t.with_natural(answers::rows_refusal(answer), refused);
+    if refused != 0 {
+        return seen.with_natural(moved.position as u64, position as u64);
+    }
+    let after = std::num::wrapping_add_usize(position, request);
+    seen.with_natural(answers::rows_granted(answer), request as u64)
+        .with_natural(moved.position as u64, after as u64)
+}
+
+// The library's call, and its answer compared.
 fn called(
     c: Case,
     f: &[i16],
     g: &[i16],
-    position: usize,
     a: Asked,
-    work: &mut [i64],
-    out: &mut [i64],
-) -> Moved {
+    position: usize,
+    given: [i64; 5200],
+    before: [i64; 5200],
+    t: Tally,
+) -> Stand {
     let zero = 0;
-    let columns = a.work;
-    let n = a.out;
-    if work.len() < columns {
-        return Moved {
-            answer: RowsAnswer::Refused(0),
-            position,
-        };
-    }
-    if out.len() < n {
-        return Moved {
-            answer: RowsAnswer::Refused(0),
-            position,
-        };
-    }
-    rows::rows_at(
+    let columns = a.work % 5201;
+    let cells = a.out % 5201;
+    let mut work = given;
+    let mut out = before;
+    let work_area: &mut [i64] = &mut work;
+    let out_area: &mut [i64] = &mut out;
+    let worked: &mut [i64] = &mut work_area[zero..columns];
+    let written: &mut [i64] = &mut out_area[zero..cells];
+    let moved = rows::rows_at(
         position,
         cases::size(c),
         f,
@@ -119,256 +128,148 @@ fn called(
         cases::shift(c),
         c.plane,
         a.request,
-        &mut work[zero..columns],
-        &mut out[zero..n],
-    )
-}
-
-// The answer and the position of a call, beside the rival's.
-fn compare_answer(moved: Moved, position: usize, a: Asked, refused: u64, t: Tally) -> Tally {
-    let answer = moved.answer;
-    let seen = t.with_natural(answers::rows_refusal(answer), refused);
-    if refused != 0 {
-        return seen.with_natural(moved.position as u64, position as u64);
-    }
-    let after = std::num::wrapping_add_usize(position, a.request);
-    seen.with_natural(answers::rows_granted(answer), a.request as u64)
-        .with_natural(moved.position as u64, after as u64)
-}
-
-// The rival's call.
-fn rival_called(
-    c: Case,
-    f: &[i16],
-    g: &[i16],
-    begun_fresh: bool,
-    refused: u64,
-    position: usize,
-    request: usize,
-    work: &mut [i64],
-    out: &mut [i64],
-) {
-    if refused == 0 {
-        recurrence::next_rows(c, f, g, begun_fresh, position, request, work, out);
-    }
-}
-
-// All of both areas, and one number behind them.
-fn compare_areas(
-    c: Case,
-    work: &[i64],
-    out: &[i64],
-    rival_work: &[i64],
-    rival_out: &[i64],
-    t: Tally,
-) -> Tally {
-    let columns = std::num::wrapping_add_usize(c.columns, 1);
-    let cells = std::num::wrapping_add_usize(cases::cells(c), 1);
-    let worked = areas::compare_numbers(columns, work, rival_work, t);
-    areas::compare_numbers(cells, out, rival_out, worked)
-}
-
-// One call: its answer and position, and both areas afterwards.
-fn call(
-    c: Case,
-    f: &[i16],
-    g: &[i16],
-    begun_fresh: bool,
-    a: Asked,
-    work: &mut [i64],
-    out: &mut [i64],
-    rival_work: &mut [i64],
-    rival_out: &mut [i64],
-    s: Stand,
-) -> Stand {
-    let position = s.position;
-    let refused = refusal(c, position, a);
-    let moved = called(c, f, g, position, a, work, out);
-    rival_called(
-        c,
-        f,
-        g,
-        begun_fresh,
-        refused,
-        position,
-        a.request,
-        rival_work,
-        rival_out,
+        worked,
+        written,
     );
-    let answered = compare_answer(moved, position, a, refused, s.tally);
     Stand {
         position: moved.position,
-        tally: compare_areas(c, work, out, rival_work, rival_out, answered),
+        work,
+        out,
+        tally: compare_answer(moved, position, a.request, refusal(c, position, a), t),
     }
 }
 
-// A list of calls.
-fn list(
-    c: Case,
-    f: &[i16],
-    g: &[i16],
-    begun_fresh: bool,
-    pattern: usize,
-    seed: u64,
-    calls: usize,
-    work: &mut [i64],
-    out: &mut [i64],
-    rival_work: &mut [i64],
-    rival_out: &mut [i64],
-    stand: Stand,
-) -> Stand {
-    let mut s = stand;
-    let mut k = 0usize;
-    while k < calls {
-        let a = ask(c, pattern, random::at(seed, k));
-        s = call(c, f, g, begun_fresh, a, work, out, rival_work, rival_out, s);
-        k += 1;
-    }
+// Both areas after a call, and one number behind them, beside what they are to hold.
+fn compare(c: Case, after: Stand, work: [i64; 5200], out: [i64; 5200]) -> Stand {
+    let columns = std::num::wrapping_add_usize(c.columns, 1);
+    let cells = std::num::wrapping_add_usize(cases::cells(c), 1);
+    let mut s = after;
+    let ours = s.work;
+    let worked = areas::compare_numbers(columns, &ours, &work, s.tally);
+    let written = s.out;
+    s.tally = areas::compare_numbers(cells, &written, &out, worked);
     s
 }
 
-// A list of calls on areas with foreign contents, begun at a position.
-fn session(
+// The rival's work area after a call of so many rows.
+fn rival_work(
     c: Case,
     f: &[i16],
     g: &[i16],
-    begun_fresh: bool,
+    b: Begun,
+    rows: usize,
+    given: [i64; 5200],
+) -> [i64; 5200] {
+    let last = std::num::wrapping_sub_usize(std::num::wrapping_add_usize(b.position, rows), 1);
+    let columns = c.columns % 5201;
+    let mut work = given;
+    let mut j = 0usize;
+    while j < columns {
+        work[j] = recurrence::work(c, f, g, b, &given, last, j);
+        j += 1;
+    }
+    work
+}
+
+// The rival's output area after a call of so many rows, by the work area given.
+fn rival_out(
+    c: Case,
+    f: &[i16],
+    g: &[i16],
+    b: Begun,
+    rows: usize,
+    given: [i64; 5200],
+    before: [i64; 5200],
+) -> [i64; 5200] {
+    let cells = areas::times(rows, c.columns) % 5201;
+    let mut out = before;
+    let mut k = 0usize;
+    while k < cells {
+        let i = std::num::wrapping_add_usize(b.position, places::row_of(c, k));
+        out[k] = recurrence::output(c, f, g, b, &given, i, places::column_of(c, k));
+        k += 1;
+    }
+    out
+}
+
+// One call: its answer and position, and both areas afterwards.
+fn call(c: Case, f: &[i16], g: &[i16], fresh: bool, a: Asked, s: Stand) -> Stand {
+    let position = s.position;
+    let given = s.work;
+    let before = s.out;
+    let after = called(c, f, g, a, position, given, before, s.tally);
+    if refusal(c, position, a) != 0 {
+        return compare(c, after, given, before);
+    }
+    if a.request == 0 {
+        return compare(c, after, given, before);
+    }
+    let b = Begun { fresh, position };
+    let work = rival_work(c, f, g, b, a.request, given);
+    let out = rival_out(c, f, g, b, a.request, given, before);
+    compare(c, after, work, out)
+}
+
+// What the calls of a list have in common.
+struct Common {
+    case: Case,
+    fresh: bool,
     pattern: usize,
-    seed: u64,
-    work: &mut [i64],
-    out: &mut [i64],
-    rival_work: &mut [i64],
-    rival_out: &mut [i64],
-    tally: Tally,
-) -> Tally {
-    areas::foreign(1100, seed, work);
-    areas::foreign(1100, seed, rival_work);
-    areas::foreign(1100, seed, out);
-    areas::foreign(1100, seed, rival_out);
-    let begin = (seed / 16 % 32) as usize;
-    let position = if begun_fresh { 0 } else { begin };
-    let calls = std::num::wrapping_add_usize(c.rows, 3);
-    let s = list(
-        c,
-        f,
-        g,
-        begun_fresh,
-        pattern,
-        seed,
-        calls,
-        work,
-        out,
-        rival_work,
-        rival_out,
-        Stand { position, tally },
-    );
+    calls: usize,
+}
+
+// A list of calls.
+fn list(l: Common, f: &[i16], g: &[i16], stand: Stand) -> Tally {
+    let calls = l.calls;
+    let c = l.case;
+    let mut s = stand;
+    let mut k = 0usize;
+    while k < calls {
+        let a = ask(c, l.pattern, random::at(c.seed, k));
+        s = call(c, f, g, l.fresh, a, s);
+        k += 1;
+    }
     s.tally
 }
 
-// One case: its pictures made, and one list of calls.
-fn of_case(
-    c: Case,
-    begun_fresh: bool,
-    pattern: usize,
-    seed: u64,
-    f: &mut [i16],
-    g: &mut [i16],
-    work: &mut [i64],
-    out: &mut [i64],
-    rival_work: &mut [i64],
-    rival_out: &mut [i64],
-    t: Tally,
-) -> Tally {
+// A list of calls on areas with foreign contents, begun at position 0 or at any.
+fn session(l: Common, tally: Tally) -> Tally {
     let zero = 0;
-    let n = cases::cells(c);
-    if f.len() < n {
-        return t.with_natural(1, 0);
-    }
-    if g.len() < n {
-        return t.with_natural(1, 0);
-    }
-    random::picture(n, seed, f);
-    random::picture(n, random::next(seed), g);
-    session(
-        c,
-        &f[zero..n],
-        &g[zero..n],
-        begun_fresh,
-        pattern,
-        seed,
-        work,
-        out,
-        rival_work,
-        rival_out,
-        t,
-    )
+    let c = l.case;
+    let n = cases::cells(c) % 32769;
+    let f = random::picture(n, c.seed);
+    let g = random::picture(n, random::next(c.seed));
+    let area = areas::foreign(c.seed);
+    let begin = (c.seed / 16 % 32) as usize;
+    let position = if l.fresh { 0 } else { begin };
+    let stand = Stand {
+        position,
+        work: area,
+        out: area,
+        tally,
+    };
+    list(l, &f[zero..n], &g[zero..n], stand)
 }
 
 // The lists of many cases: every pair of shape and plane, and every pattern.
-fn lists(
-    trials: usize,
-    begun_fresh: bool,
-    f: &mut [i16],
-    g: &mut [i16],
-    work: &mut [i64],
-    out: &mut [i64],
-    rival_work: &mut [i64],
-    rival_out: &mut [i64],
-    tally: Tally,
-) -> Tally {
-    let mut t = tally;
+fn lists(trials: usize, fresh: bool) -> Tally {
+    let mut t = tally::fresh();
     let mut k = 0usize;
     while k < trials {
-        let c = places::session_case(k);
-        let pattern = places::pattern(k);
-        t = of_case(
-            c,
-            begun_fresh,
-            pattern,
-            places::seed(k),
-            f,
-            g,
-            work,
-            out,
-            rival_work,
-            rival_out,
-            t,
-        );
+        let case = places::session_case(k);
+        let l = Common {
+            case,
+            fresh,
+            pattern: places::pattern(k),
+            calls: std::num::wrapping_add_usize(case.rows, 3),
+        };
+        t = session(l, t);
         k += 1;
     }
     t
 }
 
-pub fn run(
-    f: &mut [i16],
-    g: &mut [i16],
-    work: &mut [i64],
-    out: &mut [i64],
-    rival_work: &mut [i64],
-    rival_out: &mut [i64],
-) {
-    let fresh = lists(
-        108,
-        true,
-        f,
-        g,
-        work,
-        out,
-        rival_work,
-        rival_out,
-        tally::fresh(),
-    );
-    tally::print(b"rows of fresh sessions", fresh);
-    let foreign = lists(
-        216,
-        false,
-        f,
-        g,
-        work,
-        out,
-        rival_work,
-        rival_out,
-        tally::fresh(),
-    );
-    tally::print(b"rows of foreign sessions", foreign);
+pub fn run() {
+    tally::print(b"rows of fresh sessions", lists(108, true));
+    tally::print(b"rows of foreign sessions", lists(216, false));
 }

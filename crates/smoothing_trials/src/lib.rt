@@ -1,4 +1,6 @@
 // Smoothing and the steady search beside the rival's.
+ghost use mathlib.Core.Path.{_≡_};
+ghost use lib.ListN.{length};
 use rival::moments;
 use smoothing::SteadyAnswer;
 use trial_cases::answers;
@@ -12,8 +14,8 @@ use trial_tools::tally::Tally;
 
 // The rival's mean at a cell of one picture.
 fn mean(c: Case, f: &[i16], i: usize, j: usize) -> i64 {
-    let n = rival::sum(cases::with_plane(c, 0), f, f, i, j);
-    let s = rival::sum(cases::with_plane(c, 1), f, f, i, j);
+    let n = rival::plane_sum(c, 0, f, f, i, j);
+    let s = rival::plane_sum(c, 1, f, f, i, j);
     moments::mean(n, s)
 }
 
@@ -31,24 +33,37 @@ fn compare(c: Case, f: &[i16], out: &[i16], count: usize, tally: Tally) -> Tally
     t
 }
 
-fn smooth(c: Case, count: usize, f: &[i16], out: &mut [i16], t: Tally) -> Tally {
-    let refusal = answers::fill_refusal(smoothing::smooth(
-        cases::size(c),
+// Room for a smoothed picture.
+fn room() -> [i16; 32768]
+    ensures { λ r. ⌜ 32768 ≡ length r ⌝ }
+{
+    [0; 32768]
+}
+
+// The picture smoothed.
+fn smooth(c: Case, f: &[i16], t: Tally) -> Tally {
+    let zero = 0;
+    let n = f.len() % 32769;
+    let mut out = room();
+    let area: &mut [i16] = &mut out;
+    let answer = smoothing::smooth(cases::size(c), f, cases::window(c), &mut area[zero..n]);
+    compare(
+        c,
         f,
-        cases::window(c),
-        out,
-    ));
-    compare(c, f, out, count, t.with_natural(refusal, 0))
+        &out,
+        n,
+        t.with_natural(answers::fill_refusal(answer), 0),
+    )
 }
 
 // Whether the cell is Steady: N is not 0, and Vf is.
 fn is_steady(c: Case, f: &[i16], g: &[i16], i: usize, j: usize) -> bool {
-    let n = rival::sum(cases::with_plane(c, 0), f, g, i, j);
+    let n = rival::plane_sum(c, 0, f, g, i, j);
     if n == 0 {
         return false;
     }
-    let s = rival::sum(cases::with_plane(c, 1), f, g, i, j);
-    let a = rival::sum(cases::with_plane(c, 3), f, g, i, j);
+    let s = rival::plane_sum(c, 1, f, g, i, j);
+    let a = rival::plane_sum(c, 3, f, g, i, j);
     moments::central(n, a, s, s) == 0
 }
 
@@ -86,78 +101,33 @@ struct Tallies {
     steady: Tally,
 }
 
-// One case on areas of its size; one picture alone is smoothed.
-fn of_areas(
-    c: Case,
-    seed: u64,
-    count: usize,
-    f: &mut [i16],
-    g: &mut [i16],
-    out: &mut [i16],
-    t: Tallies,
-) -> Tallies {
-    let n = cases::cells(c);
-    random::picture(n, seed, f);
-    random::picture(n, random::next(seed), g);
-    let means = smooth(cases::unshifted(c), count, f, out, t.means);
-    let steady = steady(c, f, g, t.steady);
-    Tallies { means, steady }
-}
-
-fn of_case(
-    c: Case,
-    seed: u64,
-    count: usize,
-    f: &mut [i16],
-    g: &mut [i16],
-    out: &mut [i16],
-    t: Tallies,
-) -> Tallies {
+// One case: its pictures made; one picture alone is smoothed.
+fn of_case(c: Case, t: Tallies) -> Tallies {
     let zero = 0;
-    let n = cases::cells(c);
-    if f.len() < n {
-        return t;
+    let n = cases::cells(c) % 32769;
+    let f = random::picture(n, c.seed);
+    let g = random::picture(n, random::next(c.seed));
+    Tallies {
+        means: smooth(cases::unshifted(c), &f[zero..n], t.means),
+        steady: steady(c, &f[zero..n], &g[zero..n], t.steady),
     }
-    if g.len() < n {
-        return t;
-    }
-    if out.len() < n {
-        return t;
-    }
-    of_areas(
-        c,
-        seed,
-        count,
-        &mut f[zero..n],
-        &mut g[zero..n],
-        &mut out[zero..n],
-        t,
-    )
 }
 
-fn of_cases(
-    trials: usize,
-    f: &mut [i16],
-    g: &mut [i16],
-    out: &mut [i16],
-    tallies: Tallies,
-) -> Tallies {
-    let mut t = tallies;
+fn of_cases(trials: usize) -> Tallies {
+    let mut t = Tallies {
+        means: tally::fresh(),
+        steady: tally::fresh(),
+    };
     let mut k = 0usize;
     while k < trials {
-        let c = places::case(k);
-        t = of_case(c, places::seed(k), cases::cells(c), f, g, out, t);
+        t = of_case(places::case(k), t);
         k += 1;
     }
     t
 }
 
-pub fn run(f: &mut [i16], g: &mut [i16], out: &mut [i16]) {
-    let none = Tallies {
-        means: tally::fresh(),
-        steady: tally::fresh(),
-    };
-    let t = of_cases(288, f, g, out, none);
+pub fn run() {
+    let t = of_cases(288);
     tally::print(b"smoothed cells", t.means);
     tally::print(b"steady searches", t.steady);
 }

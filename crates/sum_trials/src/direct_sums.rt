@@ -1,5 +1,6 @@
 // Direct sums of generated pictures beside the rival's.
 use picture::Cell;
+use picture::SumAnswer;
 use trial_cases::answers;
 use trial_cases::cases;
 use trial_cases::cases::Case;
@@ -8,9 +9,9 @@ use trial_tools::random;
 use trial_tools::tally;
 use trial_tools::tally::Tally;
 
-// The direct sum at one cell.
-fn at_cell(c: Case, f: &[i16], g: &[i16], row: usize, column: usize, t: Tally) -> Tally {
-    let answer = direct::direct_sum(
+// The library's sum at a cell.
+pub fn given(c: Case, f: &[i16], g: &[i16], row: usize, column: usize) -> SumAnswer {
+    direct::direct_sum(
         cases::size(c),
         f,
         g,
@@ -18,9 +19,18 @@ fn at_cell(c: Case, f: &[i16], g: &[i16], row: usize, column: usize, t: Tally) -
         cases::shift(c),
         c.plane,
         Cell { row, column },
-    );
-    let seen = t.with_natural(answers::sum_refusal(answer), 0);
-    seen.with(answers::sum_given(answer), rival::sum(c, f, g, row, column))
+    )
+}
+
+// The direct sum at the k-th cell.
+fn at_cell(c: Case, f: &[i16], g: &[i16], k: usize, t: Tally) -> Tally {
+    let row = places::row(c, k);
+    let column = places::column(c, k);
+    let answer = given(c, f, g, row, column);
+    t.with_natural(answers::sum_refusal(answer), 0).with(
+        answers::sum_given(answer),
+        rival::sum(c, f, g, row, column),
+    )
 }
 
 // The direct sums at so many cells.
@@ -28,51 +38,33 @@ fn at_cells(c: Case, f: &[i16], g: &[i16], count: usize, tally: Tally) -> Tally 
     let mut t = tally;
     let mut k = 0usize;
     while k < count {
-        t = at_cell(c, f, g, places::row(c, k), places::column(c, k), t);
+        t = at_cell(c, f, g, k, t);
         k += 1;
     }
     t
 }
 
 // One case: its pictures made, and the sums at so many of its cells compared.
-fn of_case(c: Case, seed: u64, count: usize, f: &mut [i16], g: &mut [i16], t: Tally) -> Tally {
+fn of_case(c: Case, count: usize, t: Tally) -> Tally {
     let zero = 0;
-    let n = cases::cells(c);
-    if f.len() < n {
-        return t.with_natural(1, 0);
-    }
-    if g.len() < n {
-        return t.with_natural(1, 0);
-    }
-    random::picture(n, seed, f);
-    random::picture(n, random::next(seed), g);
+    let n = cases::cells(c) % 32769;
+    let f = random::picture(n, c.seed);
+    let g = random::picture(n, random::next(c.seed));
     at_cells(c, &f[zero..n], &g[zero..n], count, t)
 }
 
-// Pictures of up to 24 rows and 40 columns, at every cell.
-fn small(trials: usize, f: &mut [i16], g: &mut [i16], tally: Tally) -> Tally {
-    let mut t = tally;
+// Pictures of up to 24 rows and 40 columns at every cell, and those of 256 rows or 1,024 columns at some.
+fn of_cases(trials: usize, small: usize) -> Tally {
+    let mut t = tally::fresh();
     let mut k = 0usize;
     while k < trials {
-        let c = places::case(k);
-        t = of_case(c, places::seed(k), cases::cells(c), f, g, t);
+        let tried = places::tried(k, small);
+        t = of_case(tried.case, tried.cells, t);
         k += 1;
     }
     t
 }
 
-// Pictures of 256 rows or 1,024 columns, at some cells.
-fn large(trials: usize, f: &mut [i16], g: &mut [i16], tally: Tally) -> Tally {
-    let mut t = tally;
-    let mut k = 0usize;
-    while k < trials {
-        t = of_case(places::large_case(k), places::seed(k), 12, f, g, t);
-        k += 1;
-    }
-    t
-}
-
-pub fn run(f: &mut [i16], g: &mut [i16]) {
-    let t = small(288, f, g, tally::fresh());
-    tally::print(b"direct sums", large(72, f, g, t));
+pub fn run() {
+    tally::print(b"direct sums", of_cases(360, 288));
 }

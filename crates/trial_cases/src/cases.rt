@@ -12,6 +12,7 @@ pub struct Case {
     pub down: usize, // u + 255
     pub right: usize, // v + 1,023
     pub plane: u32,
+    pub seed: u64, // of its pictures
 }
 
 // One picture alone: "the case g = f with shift (0, 0)".
@@ -19,12 +20,6 @@ pub fn unshifted(case: Case) -> Case {
     let mut c = case;
     c.down = 255;
     c.right = 1023;
-    c
-}
-
-pub fn with_plane(case: Case, plane: u32) -> Case {
-    let mut c = case;
-    c.plane = plane;
     c
 }
 
@@ -66,6 +61,7 @@ pub fn shift(case: Case) -> Shift {
     }
 }
 
+// The number of its cells.
 pub fn cells(case: Case) -> usize {
     trial_tools::areas::times(case.rows, case.columns)
 }

@@ -66,5 +66,6 @@ pub fn case(seed: u64, shape: u32, plane: u32) -> Case {
         down: shift_down(e),
         right: shift_right(f),
         plane,
+        seed,
     }
 }

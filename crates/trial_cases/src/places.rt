@@ -14,7 +14,7 @@ fn plane(k: usize) -> u32 {
     (k / 3 % 6) as u32
 }
 
-pub fn seed(k: usize) -> u64 {
+fn seed(k: usize) -> u64 {
     random::at(2024, k)
 }
 
@@ -40,6 +40,25 @@ pub fn large_case(k: usize) -> Case {
         return cases::with_size(c, 256, c.columns);
     }
     cases::with_size(c, c.rows, 1024)
+}
+
+// A case, and at how many of its cells it is tried.
+pub struct Trial {
+    pub case: Case,
+    pub cells: usize,
+}
+
+// The k-th case at every cell, for so many of them; then the large ones at twelve.
+pub fn tried(k: usize, small: usize) -> Trial {
+    if k < small {
+        let case = case(k);
+        return Trial {
+            case,
+            cells: cases::cells(case),
+        };
+    }
+    let case = large_case(k - small);
+    Trial { case, cells: 12 }
 }
 
 // The same for sessions, with 256 rows or 1,024 columns now and then.

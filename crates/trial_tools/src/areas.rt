@@ -1,4 +1,4 @@
-// Areas of numbers: reads and writes that look at the length first, and comparisons.
+// Areas of numbers: reads that look at the length first, foreign contents, and comparisons.
 use crate::random;
 use crate::tally::Tally;
 
@@ -12,24 +12,6 @@ pub fn number(area: &[i64], k: usize) -> i64 {
 
 pub fn byte(area: &[u8], k: usize) -> u8 {
     if k < area.len() { area[k] } else { 0 }
-}
-
-pub fn set_level(area: &mut [i16], k: usize, level: i16) {
-    if k < area.len() {
-        area[k] = level;
-    }
-}
-
-pub fn set_number(area: &mut [i64], k: usize, number: i64) {
-    if k < area.len() {
-        area[k] = number;
-    }
-}
-
-pub fn set_byte(area: &mut [u8], k: usize, byte: u8) {
-    if k < area.len() {
-        area[k] = byte;
-    }
 }
 
 // A level as a number of 64 bits.
@@ -58,44 +40,36 @@ pub fn compare_numbers(n: usize, ours: &[i64], rivals: &[i64], tally: Tally) -> 
     t
 }
 
-// Foreign contents: the numbers that a seed gives.
-pub fn foreign(n: usize, seed: u64, area: &mut [i64]) {
-    let mut k = 0usize;
-    while k < n {
-        set_number(area, k, random::whole(seed, k));
-        k += 1;
-    }
-}
-
-// The same contents compared with an area.
-pub fn compare_foreign(n: usize, seed: u64, area: &[i64], tally: Tally) -> Tally {
+// The first n levels of two areas compared.
+pub fn compare_levels(n: usize, ours: &[i16], rivals: &[i16], tally: Tally) -> Tally {
     let mut t = tally;
     let mut k = 0usize;
     while k < n {
-        t = t.with(number(area, k), random::whole(seed, k));
+        t = t.with(widened(level(ours, k)), widened(level(rivals, k)));
         k += 1;
     }
     t
 }
 
-// Foreign contents of a picture, and their comparison.
-pub fn foreign_levels(n: usize, seed: u64, area: &mut [i16]) {
+// Foreign contents of a work or output area: the first 1,100 numbers that a seed gives.
+pub fn foreign(seed: u64) -> [i64; 5200] {
+    let mut area = [0i64; 5200];
     let mut k = 0usize;
-    while k < n {
-        set_level(area, k, random::level(random::at(seed, k)));
+    while k < 1100 {
+        area[k] = random::whole(seed, k);
         k += 1;
     }
+    area
 }
 
-pub fn compare_foreign_levels(n: usize, seed: u64, area: &[i16], tally: Tally) -> Tally {
-    let mut t = tally;
+// Foreign contents of a table: the first n numbers that a seed gives.
+pub fn foreign_table(n: usize, seed: u64) -> [i64; 32768] {
+    let most = n % 32769;
+    let mut area = [0i64; 32768];
     let mut k = 0usize;
-    while k < n {
-        t = t.with(
-            widened(level(area, k)),
-            widened(random::level(random::at(seed, k))),
-        );
+    while k < most {
+        area[k] = random::whole(seed, k);
         k += 1;
     }
-    t
+    area
 }

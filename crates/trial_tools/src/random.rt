@@ -1,5 +1,4 @@
 // Numbers that look random and are the same in every run, and pictures made of them.
-use crate::areas;
 
 // The next number of a multiplicative generator, from 0 to 4,294,967,290.
 pub fn next(state: u64) -> u64 {
@@ -64,12 +63,19 @@ fn level_of(kind: u64, seed: u64, n: u64) -> i16 {
     level(n)
 }
 
-// The first n levels of a picture, of the kind that the seed gives.
-pub fn picture(n: usize, seed: u64, out: &mut [i16]) {
-    let kind = next(seed) / 5 % 8;
+// The first n levels that a seed gives, of a kind.
+pub fn levels(n: usize, kind: u64, seed: u64) -> [i16; 32768] {
+    let most = n % 32769;
+    let mut out = [0i16; 32768];
     let mut k = 0usize;
-    while k < n {
-        areas::set_level(out, k, level_of(kind, seed, at(seed, k)));
+    while k < most {
+        out[k] = level_of(kind, seed, at(seed, k));
         k += 1;
     }
+    out
+}
+
+// The first n levels of a picture, of the kind that the seed gives.
+pub fn picture(n: usize, seed: u64) -> [i16; 32768] {
+    levels(n, next(seed) / 5 % 8, seed)
 }

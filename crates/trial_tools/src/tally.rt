@@ -26,13 +26,19 @@ fn added(checksum: u64, number: u64) -> u64 {
 }
 
 impl Tally {
-    // One comparison more, of two natural numbers: the library's and the rival's.
-    pub fn with_natural(self, ours: u64, rivals: u64) -> Tally {
+    // One comparison more, and whether it differed.
+    fn counted(self, differs: bool) -> Tally {
         let mut t = self;
         t.compared = std::num::wrapping_add_u64(t.compared, 1);
-        if ours != rivals {
+        if differs {
             t.different = std::num::wrapping_add_u64(t.different, 1);
         }
+        t
+    }
+
+    // One comparison more, of two natural numbers: the library's and the rival's.
+    pub fn with_natural(self, ours: u64, rivals: u64) -> Tally {
+        let mut t = self.counted(ours != rivals);
         let before = t.checksum;
         t.checksum = added(before, ours);
         t
@@ -40,14 +46,7 @@ impl Tally {
 
     // One comparison more, of two whole numbers.
     pub fn with(self, ours: i64, rivals: i64) -> Tally {
-        let mut t = self;
-        t.compared = std::num::wrapping_add_u64(t.compared, 1);
-        if ours != rivals {
-            t.different = std::num::wrapping_add_u64(t.different, 1);
-        }
-        let before = t.checksum;
-        t.checksum = added(stirred(before, sign(ours)), machine::magnitude(ours));
-        t
+        self.counted(ours != rivals).with_unmatched(ours)
     }
 
     // The checksum alone with a whole number of the library's, where the rival has none.

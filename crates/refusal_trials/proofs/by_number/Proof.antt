@@ -1,16 +1,17 @@
 -- `refusal_trials::by_number` is safe and ends. Assumes nothing.
 use borrow.Author.Needs.{needs}
-use mathlib.Core.Path.{_≡_}
-use Prim.Native.Nat.{_-_}
-use lib.ListN.{length}
+use Prim.Native.Nat.{_-_, _≤_}
 use Rattle.refusal_trials.proofs.by_number.Statement.{statement}
 use Rattle.refusal_trials.proofs.by_number.Tie as tie
 
 abbrev Inv-loop : tie.InvT-loop
-Inv-loop calls number f g work₀ out₀ smooth₀ t₀ k₀ work out smooth t k = (length work ≡ length work₀) × (length out ≡ length out₀) × (length smooth ≡ length smooth₀)
+Inv-loop number t₀ k₀ t k = 0 ≤ k
 
 abbrev μ-loop : tie.MeasureT-loop
-μ-loop calls number f g work₀ out₀ smooth₀ t₀ k₀ work out smooth t k = calls - k
+μ-loop number t₀ k₀ t k = 7776 - k
+
+fresh-requires : tie.Need-fresh-requires Inv-loop μ-loop
+fresh-requires c κs = search needs
 
 loop-holds : tie.Need-loop-holds Inv-loop μ-loop
 loop-holds c = search needs
@@ -27,15 +28,6 @@ loop-less c = search needs
 loop-again : tie.Need-loop-again Inv-loop μ-loop
 loop-again c = search needs
 
-same-length : tie.Need-same-length Inv-loop μ-loop
-same-length c = search needs
-
-same-length-2 : tie.Need-same-length-2 Inv-loop μ-loop
-same-length-2 c = search needs
-
-same-length-3 : tie.Need-same-length-3 Inv-loop μ-loop
-same-length-3 c = search needs
-
 returns : tie.Need-returns Inv-loop μ-loop
 returns c = search needs
 
@@ -45,12 +37,10 @@ by-number-spec =
     (tie.spec
     Inv-loop
     μ-loop
+    fresh-requires
     loop-holds
     kth-requires
     add-k
     loop-less
     loop-again
-    same-length
-    same-length-2
-    same-length-3
     returns)

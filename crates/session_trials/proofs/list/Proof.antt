@@ -1,16 +1,14 @@
 -- `session_trials::list` is safe and ends. Assumes nothing.
 use borrow.Author.Needs.{needs}
-use mathlib.Core.Path.{_≡_}
-use Prim.Native.Nat.{_-_}
-use lib.ListN.{length}
+use Prim.Native.Nat.{_-_, _≤_}
 use Rattle.session_trials.proofs.list.Statement.{statement}
 use Rattle.session_trials.proofs.list.Tie as tie
 
 abbrev Inv-loop : tie.InvT-loop
-Inv-loop c f g begun-fresh pattern seed calls work₀ out₀ rival-work₀ rival-out₀ s₀ k₀ work out rival-work rival-out s k = (length work ≡ length work₀) × (length out ≡ length out₀) × (length rival-work ≡ length rival-work₀) × (length rival-out ≡ length rival-out₀)
+Inv-loop l f g calls c s₀ k₀ s k = 0 ≤ k
 
 abbrev μ-loop : tie.MeasureT-loop
-μ-loop c f g begun-fresh pattern seed calls work₀ out₀ rival-work₀ rival-out₀ s₀ k₀ work out rival-work rival-out s k = calls - k
+μ-loop l f g calls c s₀ k₀ s k = calls - k
 
 loop-holds : tie.Need-loop-holds Inv-loop μ-loop
 loop-holds c = search needs
@@ -33,18 +31,6 @@ loop-less c = search needs
 loop-again : tie.Need-loop-again Inv-loop μ-loop
 loop-again c = search needs
 
-same-length : tie.Need-same-length Inv-loop μ-loop
-same-length c = search needs
-
-same-length-2 : tie.Need-same-length-2 Inv-loop μ-loop
-same-length-2 c = search needs
-
-same-length-3 : tie.Need-same-length-3 Inv-loop μ-loop
-same-length-3 c = search needs
-
-same-length-4 : tie.Need-same-length-4 Inv-loop μ-loop
-same-length-4 c = search needs
-
 returns : tie.Need-returns Inv-loop μ-loop
 returns c = search needs
 
@@ -61,8 +47,4 @@ list-spec =
     add-k
     loop-less
     loop-again
-    same-length
-    same-length-2
-    same-length-3
-    same-length-4
     returns)

@@ -1,28 +1,26 @@
 -- `smoothing_trials::of_cases` is safe and ends. Assumes nothing.
 use borrow.Author.Needs.{needs}
-use mathlib.Core.Path.{_≡_}
-use Prim.Native.Nat.{_-_}
-use lib.ListN.{length}
+use Prim.Native.Nat.{_-_, _≤_}
 use Rattle.smoothing_trials.proofs.of_cases.Statement.{statement}
 use Rattle.smoothing_trials.proofs.of_cases.Tie as tie
 
 abbrev Inv-loop : tie.InvT-loop
-Inv-loop trials f₀ g₀ out₀ t₀ k₀ f g out t k = (length f ≡ length f₀) × (length g ≡ length g₀) × (length out ≡ length out₀)
+Inv-loop trials t₀ k₀ t k = 0 ≤ k
 
 abbrev μ-loop : tie.MeasureT-loop
-μ-loop trials f₀ g₀ out₀ t₀ k₀ f g out t k = trials - k
+μ-loop trials t₀ k₀ t k = trials - k
+
+fresh-requires : tie.Need-fresh-requires Inv-loop μ-loop
+fresh-requires c κs = search needs
+
+fresh-requires-2 : tie.Need-fresh-requires-2 Inv-loop μ-loop
+fresh-requires-2 c κs = search needs
 
 loop-holds : tie.Need-loop-holds Inv-loop μ-loop
 loop-holds c = search needs
 
 case-requires : tie.Need-case-requires Inv-loop μ-loop
 case-requires c κs = search needs
-
-seed-requires : tie.Need-seed-requires Inv-loop μ-loop
-seed-requires c κs = search needs
-
-cells-requires : tie.Need-cells-requires Inv-loop μ-loop
-cells-requires c κs = search needs
 
 of-case-requires : tie.Need-of-case-requires Inv-loop μ-loop
 of-case-requires c κs = search needs
@@ -36,15 +34,6 @@ loop-less c = search needs
 loop-again : tie.Need-loop-again Inv-loop μ-loop
 loop-again c = search needs
 
-same-length : tie.Need-same-length Inv-loop μ-loop
-same-length c = search needs
-
-same-length-2 : tie.Need-same-length-2 Inv-loop μ-loop
-same-length-2 c = search needs
-
-same-length-3 : tie.Need-same-length-3 Inv-loop μ-loop
-same-length-3 c = search needs
-
 returns : tie.Need-returns Inv-loop μ-loop
 returns c = search needs
 
@@ -54,15 +43,12 @@ of-cases-spec =
     (tie.spec
     Inv-loop
     μ-loop
+    fresh-requires
+    fresh-requires-2
     loop-holds
     case-requires
-    seed-requires
-    cells-requires
     of-case-requires
     add-k
     loop-less
     loop-again
-    same-length
-    same-length-2
-    same-length-3
     returns)

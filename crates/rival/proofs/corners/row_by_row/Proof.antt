@@ -5,10 +5,10 @@ use Rattle.rival.proofs.corners.row_by_row.Statement.{statement}
 use Rattle.rival.proofs.corners.row_by_row.Tie as tie
 
 abbrev Inv-loop : tie.InvT-loop
-Inv-loop c table i j h reach rows s₀ m₀ s m = 0 ≤ m
+Inv-loop c table i j rows s₀ m₀ s m = 0 ≤ m
 
 abbrev μ-loop : tie.MeasureT-loop
-μ-loop c table i j h reach rows s₀ m₀ s m = rows - m
+μ-loop c table i j rows s₀ m₀ s m = rows - m
 
 loop-holds : tie.Need-loop-holds Inv-loop μ-loop
 loop-holds c = search needs

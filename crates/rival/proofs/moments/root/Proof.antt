@@ -1,23 +1,20 @@
 -- `rival::moments::root` is safe and ends. Assumes nothing.
 use borrow.Author.Needs.{needs}
-use Prim.Native.Nat.{_-_, _≤_}
+use Prim.Native.Nat.{_≤_}
 use Rattle.rival.proofs.moments.root.Statement.{statement}
 use Rattle.rival.proofs.moments.root.Tie as tie
 
 abbrev Inv-loop : tie.InvT-loop
-Inv-loop scale most bits d₀ bit₀ k₀ d bit k = 0 ≤ k
+Inv-loop highest scale most d₀ bit₀ d bit = 0 ≤ d
 
 abbrev μ-loop : tie.MeasureT-loop
-μ-loop scale most bits d₀ bit₀ k₀ d bit k = bits - k
+μ-loop highest scale most d₀ bit₀ d bit = bit
 
 loop-holds : tie.Need-loop-holds Inv-loop μ-loop
 loop-holds c = search needs
 
 with-bit-requires : tie.Need-with-bit-requires Inv-loop μ-loop
 with-bit-requires c κs = search needs
-
-add-k : tie.Need-add-k Inv-loop μ-loop
-add-k c = search needs
 
 loop-less : tie.Need-loop-less Inv-loop μ-loop
 loop-less c = search needs
@@ -30,5 +27,4 @@ returns c = search needs
 
 pub root-spec : {M : Type 1} → statement M
 root-spec =
-    tie.close
-    (tie.spec Inv-loop μ-loop loop-holds with-bit-requires add-k loop-less loop-again returns)
+    tie.close (tie.spec Inv-loop μ-loop loop-holds with-bit-requires loop-less loop-again returns)

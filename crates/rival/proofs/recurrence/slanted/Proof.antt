@@ -5,10 +5,10 @@ use Rattle.rival.proofs.recurrence.slanted.Statement.{statement}
 use Rattle.rival.proofs.recurrence.slanted.Tie as tie
 
 abbrev Inv-loop : tie.InvT-loop
-Inv-loop c f g i j h reach number columns s₀ n₀ s n = 0 ≤ n
+Inv-loop c f g i j number columns s₀ n₀ s n = 0 ≤ n
 
 abbrev μ-loop : tie.MeasureT-loop
-μ-loop c f g i j h reach number columns s₀ n₀ s n = columns - n
+μ-loop c f g i j number columns s₀ n₀ s n = columns - n
 
 loop-holds : tie.Need-loop-holds Inv-loop μ-loop
 loop-holds c = search needs

@@ -1,25 +1,23 @@
 -- `statistics_trials::six_sums::of_cases` is safe and ends. Assumes nothing.
 use borrow.Author.Needs.{needs}
-use mathlib.Core.Path.{_≡_}
-use Prim.Native.Nat.{_-_}
-use lib.ListN.{length}
+use Prim.Native.Nat.{_-_, _≤_}
 use Rattle.statistics_trials.proofs.six_sums.of_cases.Statement.{statement}
 use Rattle.statistics_trials.proofs.six_sums.of_cases.Tie as tie
 
 abbrev Inv-loop : tie.InvT-loop
-Inv-loop trials f₀ g₀ t₀ k₀ f g t k = (length f ≡ length f₀) × (length g ≡ length g₀)
+Inv-loop trials t₀ k₀ t k = 0 ≤ k
 
 abbrev μ-loop : tie.MeasureT-loop
-μ-loop trials f₀ g₀ t₀ k₀ f g t k = trials - k
+μ-loop trials t₀ k₀ t k = trials - k
+
+fresh-requires : tie.Need-fresh-requires Inv-loop μ-loop
+fresh-requires c κs = search needs
 
 loop-holds : tie.Need-loop-holds Inv-loop μ-loop
 loop-holds c = search needs
 
 case-requires : tie.Need-case-requires Inv-loop μ-loop
 case-requires c κs = search needs
-
-seed-requires : tie.Need-seed-requires Inv-loop μ-loop
-seed-requires c κs = search needs
 
 of-case-requires : tie.Need-of-case-requires Inv-loop μ-loop
 of-case-requires c κs = search needs
@@ -33,12 +31,6 @@ loop-less c = search needs
 loop-again : tie.Need-loop-again Inv-loop μ-loop
 loop-again c = search needs
 
-same-length : tie.Need-same-length Inv-loop μ-loop
-same-length c = search needs
-
-same-length-2 : tie.Need-same-length-2 Inv-loop μ-loop
-same-length-2 c = search needs
-
 returns : tie.Need-returns Inv-loop μ-loop
 returns c = search needs
 
@@ -48,13 +40,11 @@ of-cases-spec =
     (tie.spec
     Inv-loop
     μ-loop
+    fresh-requires
     loop-holds
     case-requires
-    seed-requires
     of-case-requires
     add-k
     loop-less
     loop-again
-    same-length
-    same-length-2
     returns)

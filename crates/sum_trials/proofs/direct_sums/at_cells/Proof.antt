@@ -13,12 +13,6 @@ abbrev μ-loop : tie.MeasureT-loop
 loop-holds : tie.Need-loop-holds Inv-loop μ-loop
 loop-holds c = search needs
 
-row-requires : tie.Need-row-requires Inv-loop μ-loop
-row-requires c κs = search needs
-
-column-requires : tie.Need-column-requires Inv-loop μ-loop
-column-requires c κs = search needs
-
 at-cell-requires : tie.Need-at-cell-requires Inv-loop μ-loop
 at-cell-requires c κs = search needs
 
@@ -41,8 +35,6 @@ at-cells-spec =
     Inv-loop
     μ-loop
     loop-holds
-    row-requires
-    column-requires
     at-cell-requires
     add-k
     loop-less

@@ -7,10 +7,10 @@ use Rattle.trial_tools.proofs.areas.foreign.Statement.{statement}
 use Rattle.trial_tools.proofs.areas.foreign.Tie as tie
 
 abbrev Inv-loop : tie.InvT-loop
-Inv-loop n seed area₀ k₀ area k = (length area ≡ length area₀)
+Inv-loop seed area₀ k₀ area k = length area ≡ 5200
 
 abbrev μ-loop : tie.MeasureT-loop
-μ-loop n seed area₀ k₀ area k = n - k
+μ-loop seed area₀ k₀ area k = 1100 - k
 
 loop-holds : tie.Need-loop-holds Inv-loop μ-loop
 loop-holds c = search needs
@@ -18,8 +18,11 @@ loop-holds c = search needs
 whole-requires : tie.Need-whole-requires Inv-loop μ-loop
 whole-requires c κs = search needs
 
-set-number-requires : tie.Need-set-number-requires Inv-loop μ-loop
-set-number-requires c κs = search needs
+mul-area : tie.Need-mul-area Inv-loop μ-loop
+mul-area c = search needs
+
+array-set-from-area : tie.Need-array-set-from-area Inv-loop μ-loop
+array-set-from-area c = search needs
 
 add-k : tie.Need-add-k Inv-loop μ-loop
 add-k c = search needs
@@ -29,9 +32,6 @@ loop-less c = search needs
 
 loop-again : tie.Need-loop-again Inv-loop μ-loop
 loop-again c = search needs
-
-same-length : tie.Need-same-length Inv-loop μ-loop
-same-length c = search needs
 
 returns : tie.Need-returns Inv-loop μ-loop
 returns c = search needs
@@ -44,9 +44,9 @@ foreign-spec =
     μ-loop
     loop-holds
     whole-requires
-    set-number-requires
+    mul-area
+    array-set-from-area
     add-k
     loop-less
     loop-again
-    same-length
     returns)
