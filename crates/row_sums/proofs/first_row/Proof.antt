@@ -1,4 +1,4 @@
--- `fill::first_row` meets its contract. The sum is the plane's row up to j, and the table's is written up to j. Assumes nothing.
+-- `row_sums::first_row` meets its contract. The sum is the plane's row up to j, and the table's is written up to j. Assumes nothing.
 use mathlib.Core.Path.{_≡_, sym, _∙_, ap}
 use Prim.Native.Nat.{ℕ, suc, _-_}
 use native.Mathlib.Numerals.{add-one}
@@ -11,8 +11,8 @@ use Rattle.numbers.specs.Sum.{sumTo}
 use Rattle.numbers.specs.Wrap.{wrap}
 use Rattle.numbers.proofs.Running.{running-none, running-more}
 use Rattle.numbers.proofs.Writes.{at, Upto, upto-none, upto-more}
-use Rattle.fill.proofs.first_row.Statement.{statement}
-use Rattle.fill.proofs.first_row.Tie as tie
+use Rattle.row_sums.proofs.first_row.Statement.{statement}
+use Rattle.row_sums.proofs.first_row.Tie as tie
 
 abbrev Inv-loop : tie.InvT-loop
 Inv-loop columns table₀ sum₀ j₀ table sum j = (toZ w64 sum ≡ wrap (sumTo j (at table₀))) × Upto (λ k. wrap (sumTo (suc k) (at table₀))) table₀ table j
