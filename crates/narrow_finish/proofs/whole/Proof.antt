@@ -1,4 +1,4 @@
--- `narrow_leans::whole` meets its contract. Assumes nothing.
+-- `narrow_finish::whole` meets its contract. Assumes nothing.
 use native.Mathlib.Omega.{arith}
 use lib.IntN.{_+ℤ_}
 use mir.Syntax.{w32}
@@ -6,8 +6,8 @@ use mir.Val.{SFits}
 use mir.Facts.{toZ-ofZ}
 use Rattle.numbers.proofs.Widths.{fits-32-64}
 use Rattle.slopes.proofs.Loops.{mag-add}
-use Rattle.narrow_leans.proofs.whole.Statement.{statement}
-use Rattle.narrow_leans.proofs.whole.Tie as tie
+use Rattle.narrow_finish.proofs.whole.Statement.{statement}
+use Rattle.narrow_finish.proofs.whole.Tie as tie
 
 -- the sum of two slopes fits
 sum : (c : tie.Start) → SFits w32 (c .args .a +ℤ c .args .b)

@@ -1,4 +1,4 @@
--- `narrow_leans::tipped` meets its contract. Assumes nothing.
+-- `narrow_finish::tipped` meets its contract. Assumes nothing.
 use native.Mathlib.Omega.{arith}
 use lib.IntN.{_+ℤ_, _-ℤ_}
 use mir.Syntax.{w32}
@@ -6,8 +6,8 @@ use mir.Val.{SFits}
 use mir.Facts.{toZ-ofZ}
 use Rattle.numbers.proofs.Widths.{fits-16-32, fits-32-64}
 use Rattle.slopes.proofs.Loops.{mag-add, mag-sub}
-use Rattle.narrow_leans.proofs.tipped.Statement.{statement}
-use Rattle.narrow_leans.proofs.tipped.Tie as tie
+use Rattle.narrow_finish.proofs.tipped.Statement.{statement}
+use Rattle.narrow_finish.proofs.tipped.Tie as tie
 
 -- the difference of two levels fits, the sum of two slopes, and both together
 module _ (c : tie.Start) where
