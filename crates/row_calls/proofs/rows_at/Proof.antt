@@ -1,4 +1,4 @@
--- `rows::rows_at` meets its contract. Assumes nothing.
+-- `row_calls::rows_at` meets its contract. Assumes nothing.
 use borrow.Author.Needs.{needs}
 use mathlib.Core.Path.{_≡_, refl, sym, ap, _∙_}
 use mathlib.Core.Option.{none}
@@ -10,9 +10,9 @@ use Rattle.picture.specs.Window.{shapeOf}
 use Rattle.picture.specs.Picture.{Inputs, inputs, planeAt}
 use Rattle.picture.proofs.Refusals.{accepted-has, in-limits}
 use Rattle.session.specs.Rows.{RowOutcome, Strip, strip, rowChecks, rowCall}
-use Rattle.rows.proofs.Checked.{Granted, granted-has, call-taken, call-number, call-granted}
-use Rattle.rows.proofs.rows_at.Statement.{statement}
-use Rattle.rows.proofs.rows_at.Tie as tie
+use Rattle.row_calls.proofs.Checked.{Granted, granted-has, call-taken, call-number, call-granted}
+use Rattle.row_calls.proofs.rows_at.Statement.{statement}
+use Rattle.row_calls.proofs.rows_at.Tie as tie
 
 abbrev asked : tie.Start → Inputs
 asked s = inputs (s .args .size) (s .args .f .now) (s .args .g .now) (s .args .window) (s .args .shift) (s .args .plane)

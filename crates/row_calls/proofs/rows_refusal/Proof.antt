@@ -1,4 +1,4 @@
--- `rows::rows_refusal` meets its contract. Assumes nothing.
+-- `row_calls::rows_refusal` meets its contract. Assumes nothing.
 use borrow.Author.Needs.{needs}
 use mathlib.Core.Path.{_≡_, sym, _∙_}
 use mathlib.Core.Bool.{Bool, true, false, not, _||_}
@@ -10,9 +10,9 @@ use lib.ListN.{length}
 use borrow.Author.Tests.{le-ltb, lt-ltb, eq-eqb, ne-eqb}
 use Rattle.picture.specs.Picture.{Inputs, inputs}
 use Rattle.picture.proofs.Refusals.{in-limits, accepted-has, number-none, number-stop-on, number-pass-on, number-before, number-after, number-0}
-use Rattle.rows.proofs.Checked.{seven-position, seven-request, seven-passes, eight-holds, eight-passes}
-use Rattle.rows.proofs.rows_refusal.Statement.{statement}
-use Rattle.rows.proofs.rows_refusal.Tie as tie
+use Rattle.row_calls.proofs.Checked.{seven-position, seven-request, seven-passes, eight-holds, eight-passes}
+use Rattle.row_calls.proofs.rows_refusal.Statement.{statement}
+use Rattle.row_calls.proofs.rows_refusal.Tie as tie
 
 abbrev asked : tie.Start → Inputs
 asked s = inputs (s .args .size) (s .args .f .now) (s .args .g .now) (s .args .window) (s .args .shift) (s .args .plane)
