@@ -1,4 +1,4 @@
--- `direct::values::total` meets its contract. Assumes nothing.
+-- `row_totals::total` meets its contract. Assumes nothing.
 use borrow.Author.Needs.{needs}
 use mathlib.Core.Path.{refl, sym, _∙_, ap}
 use Prim.Native.Nat.{_≤_}
@@ -11,9 +11,9 @@ use mir.Facts.{toZ-ofZ, toZ-pos}
 use Rattle.numbers.specs.Wrap.{wrap}
 use Rattle.numbers.proofs.Wraps.{wrap-fits, wrap-small}
 use Rattle.planes.proofs.RowParts.{plane-0, plane-1, plane-2, plane-3, plane-4, plane-5}
-use Rattle.direct.proofs.Totals.{ones, as-plane}
-use Rattle.direct.proofs.values.total.Statement.{statement}
-use Rattle.direct.proofs.values.total.Tie as tie
+use Rattle.row_totals.proofs.Totals.{ones, as-plane}
+use Rattle.row_totals.proofs.total.Statement.{statement}
+use Rattle.row_totals.proofs.total.Tie as tie
 
 cast-result : tie.Need-cast-result
 cast-result c = search needs

@@ -7,7 +7,7 @@ ghost use lib.ListN.{length, getD};
 ghost use Rattle.numbers.specs.Sum.{sumTo};
 ghost use Rattle.numbers.specs.Wrap.{wrap};
 ghost use Rattle.picture.specs.Picture.{planeValue};
-ghost use Rattle.direct.specs.Summing.{TotalAsked};
+ghost use Rattle.row_totals.specs.Asked.{TotalAsked};
 
 // The levels' sum. That of 1,024 is of 26 bits; a loop in 32 is faster than one in 64.
 fn levels_total(levels: &[i16]) -> i64

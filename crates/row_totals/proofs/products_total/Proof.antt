@@ -1,4 +1,4 @@
--- `direct::values::products_total` meets its contract. Assumes nothing.
+-- `row_totals::products_total` meets its contract. Assumes nothing.
 use borrow.Author.Needs.{needs}
 use mathlib.Core.Path.{_≡_, sym, _∙_, ap}
 use Prim.Native.Nat.{ℕ, _-_, _≤_}
@@ -13,8 +13,8 @@ use Rattle.numbers.specs.Sum.{sumTo}
 use Rattle.numbers.specs.Wrap.{wrap}
 use Rattle.numbers.proofs.Writes.{at}
 use Rattle.numbers.proofs.Running.{running-none, running-more}
-use Rattle.direct.proofs.values.products_total.Statement.{statement}
-use Rattle.direct.proofs.values.products_total.Tie as tie
+use Rattle.row_totals.proofs.products_total.Statement.{statement}
+use Rattle.row_totals.proofs.products_total.Tie as tie
 
 abbrev Inv-loop : tie.InvT-loop
 Inv-loop a b s₀ k₀ s k = (k ≤ length a) × (toZ w64 s ≡ wrap (sumTo k (λ n. at a n *ℤ at b n)))

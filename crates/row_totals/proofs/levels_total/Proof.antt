@@ -1,4 +1,4 @@
--- `direct::values::levels_total` meets its contract. Assumes nothing.
+-- `row_totals::levels_total` meets its contract. Assumes nothing.
 use borrow.Author.Needs.{needs}
 use mathlib.Core.Path.{_≡_, _∙_, ap}
 use Prim.Native.Nat.{ℕ, _-_, _≤_}
@@ -10,9 +10,9 @@ use mir.Facts.{toZ-ofZ}
 use Rattle.numbers.specs.Sum.{sumTo}
 use Rattle.numbers.proofs.Widths.{fits-16-32}
 use Rattle.numbers.proofs.Writes.{at}
-use Rattle.direct.proofs.Totals.{Exact, exact-none, exact-more, exact-fits, exact-64}
-use Rattle.direct.proofs.values.levels_total.Statement.{statement}
-use Rattle.direct.proofs.values.levels_total.Tie as tie
+use Rattle.row_totals.proofs.Totals.{Exact, exact-none, exact-more, exact-fits, exact-64}
+use Rattle.row_totals.proofs.levels_total.Statement.{statement}
+use Rattle.row_totals.proofs.levels_total.Tie as tie
 
 abbrev Inv-loop : tie.InvT-loop
 Inv-loop levels s₀ k₀ s k = (k ≤ length levels) × Exact (at levels) k (toZ w32 s)
