@@ -1,4 +1,4 @@
--- `moments::over_32768` meets its contract: the float holds m, and a division by a power of two keeps it exact. Assumes nothing.
+-- `rounding::over_32768` meets its contract: the float holds m, and a division by a power of two keeps it exact. Assumes nothing.
 use mathlib.Core.Path.{_≡_, refl, ap, _∙_}
 use mathlib.Core.Bool.{Bool, true, false}
 use Prim.Native.Nat.{ℕ, suc, _*_, _^_, _≤_}
@@ -13,8 +13,8 @@ use lib.Ieee.Back.{round-whole}
 use lib.Ieee.Fits.{down-pos}
 use mir.Facts.{toZ-ofZ}
 use Rattle.statistics.specs.Voice.{over32768}
-use Rattle.moments.proofs.over_32768.Statement.{statement}
-use Rattle.moments.proofs.over_32768.Tie as tie
+use Rattle.rounding.proofs.over_32768.Statement.{statement}
+use Rattle.rounding.proofs.over_32768.Tie as tie
 
 like : (t : Bool) → unlike t false ≡ t
 like true = refl

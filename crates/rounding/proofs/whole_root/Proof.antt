@@ -1,12 +1,12 @@
--- `moments::whole_root` meets its contract: the search keeps `Between`, and its width falls. Assumes nothing.
+-- `rounding::whole_root` meets its contract: the search keeps `Between`, and its width falls. Assumes nothing.
 use Prim.Native.Nat.{ℕ, _+_, _*_, _-_, _/_, _≤_}
 use native.Mathlib.Omega.{arith}
 use native.Mathlib.Nat.{mul-le-mul}
 use mir.Syntax.{w64}
 use mir.Val.{Fits}
 use Rattle.statistics.proofs.Halving.{Between, start, first-half, second-half, found}
-use Rattle.moments.proofs.whole_root.Statement.{statement}
-use Rattle.moments.proofs.whole_root.Tie as tie
+use Rattle.rounding.proofs.whole_root.Statement.{statement}
+use Rattle.rounding.proofs.whole_root.Tie as tie
 
 abbrev Inv-loop : tie.InvT-loop
 Inv-loop v q low₀ high₀ low high = Between v q 32769 low high

@@ -1,4 +1,4 @@
--- `moments::nearest` meets its contract: a quotient toward zero is the one rounded down, or one above it where the remainder is negative.
+-- `rounding::nearest` meets its contract: a quotient toward zero is the one rounded down, or one above it where the remainder is negative.
 -- Assumes nothing.
 use mathlib.Core.Path.{_≡_}
 use Prim.Native.Nat.{ℕ, _+_, _*_, _^_, _<_}
@@ -13,8 +13,8 @@ use Rattle.numbers.specs.Round.{nearest}
 use Rattle.numbers.proofs.Divisions.{quotient-is-floor, quotient-above-floor}
 use Rattle.numbers.proofs.Magnitudes.{size-mul, size-add, size-sub, size-quot, fits64}
 use Rattle.statistics.specs.Limits.{Quotient}
-use Rattle.moments.proofs.nearest.Statement.{statement}
-use Rattle.moments.proofs.nearest.Tie as tie
+use Rattle.rounding.proofs.nearest.Statement.{statement}
+use Rattle.rounding.proofs.nearest.Tie as tie
 
 module _ (x : ℤ) (d : ℕ) (h : Quotient x d) where
   divisor : toZ w64 d ≡ pos d
