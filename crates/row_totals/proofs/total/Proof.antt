@@ -10,7 +10,7 @@ use mir.Val.{SFits}
 use mir.Facts.{toZ-ofZ, toZ-pos}
 use Rattle.numbers.specs.Wrap.{wrap}
 use Rattle.numbers.proofs.Wraps.{wrap-fits, wrap-small}
-use Rattle.planes.proofs.RowParts.{plane-0, plane-1, plane-2, plane-3, plane-4, plane-5}
+use Rattle.plane_values.proofs.ByPlane.{plane-0, plane-1, plane-2, plane-3, plane-4, plane-5}
 use Rattle.row_totals.proofs.Totals.{ones, as-plane}
 use Rattle.row_totals.proofs.total.Statement.{statement}
 use Rattle.row_totals.proofs.total.Tie as tie
