@@ -73,7 +73,7 @@ pub fn across(work: &[i64], b: usize, out: &mut [i64])
     let n = work.len();
     if n <= b {
         let all = total(work, n);
-        planes::fill(out, all);
+        plane_values::fill(out, all);
         return;
     }
     let start = total(work, b);
@@ -81,7 +81,7 @@ pub fn across(work: &[i64], b: usize, out: &mut [i64])
     let left = b + 1;
     if right <= left {
         let all = entering(work, b, right, start, out);
-        planes::fill(&mut out[right..left], all);
+        plane_values::fill(&mut out[right..left], all);
         leaving(work, b, left, all, out);
         return;
     }

@@ -13,13 +13,13 @@ use picture::Window;
 pub fn pictures_refusal(size: Size, f: &[i16], g: &[i16]) -> u32
     ensures { λ r. ⌜ r ≡ numberOf (refusal (pictureChecks size (now (f .entry)) (now (g .entry)))) ⌝ }
 {
-    if !legal::size_legal(size) {
+    if !legal_sizes::size_legal(size) {
         return 1;
     }
-    if !legal::is_full(size, f.len()) {
+    if !legal_sizes::is_full(size, f.len()) {
         return 2;
     }
-    if !legal::is_full(size, g.len()) {
+    if !legal_sizes::is_full(size, g.len()) {
         return 2;
     }
     0
@@ -40,10 +40,10 @@ pub fn inputs_refusal(
     if pictures != 0 {
         return pictures;
     }
-    if !legal::window_legal(window) {
+    if !legal_windows::window_legal(window) {
         return 3;
     }
-    if !legal::shift_legal(shift) {
+    if !legal_windows::shift_legal(shift) {
         return 4;
     }
     if plane > 5 {
@@ -68,7 +68,7 @@ pub fn direct_refusal(
     if first != 0 {
         return first;
     }
-    if !legal::cell_inside(size, cell) {
+    if !legal_sizes::cell_inside(size, cell) {
         return 6;
     }
     0

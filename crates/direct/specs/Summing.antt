@@ -45,8 +45,3 @@ RowColumns columns w c along m r =
 pub record LineSumAsked (f g : List ℤ) (l : Line) (n : ℕ) : Type 0 where
   pub few : n ≤ 1024
   pub lies : Lies f g n l
-
--- as many levels of f as of g, at most 1,024
-pub record TotalAsked (a b : List ℤ) : Type 0 where
-  pub same : length b ≡ length a
-  pub few : length a ≤ 1024

@@ -16,8 +16,6 @@ use picture::Size;
 use picture::SumAnswer;
 use picture::Window;
 
-mod values; // values.rt: the values of a row's cells, summed
-
 // The columns that count of the window's part in row m; `along` are those of the picture.
 fn columns_of(columns: usize, window: Window, cell: Cell, along: Overlap, m: usize) -> Overlap
     requires { ⌜ ColumnsAsked columns window cell along ⌝ }
@@ -42,7 +40,7 @@ fn add_line(plane: u32, f: &[i16], g: &[i16], line: Line, n: usize, sum: i64) ->
     let hi = lo + n;
     let at = line.g;
     let until = at + n;
-    machine::wrapping_add(sum, values::total(plane, &f[lo..hi], &g[at..until]))
+    machine::wrapping_add(sum, row_totals::total(plane, &f[lo..hi], &g[at..until]))
 }
 
 // The sum of the plane over the window.

@@ -1,49 +1,15 @@
-// The values of two rows, one entering and one leaving a row of sums: one simple loop for each kind of value.
+// The values of two rows, one entering and one leaving a row of sums.
 // For callers that have checked their inputs.
 ghost use mathlib.Core.Path.{_≡_};
-ghost use lib.IntN.{pos, _+ℤ_, _-ℤ_, _*ℤ_};
+ghost use lib.IntN.{pos, _+ℤ_, _-ℤ_};
 ghost use lib.ListN.{length, getD};
 ghost use Rattle.numbers.specs.Grid.{tabulate};
 ghost use Rattle.numbers.specs.Wrap.{wrap};
 ghost use Rattle.picture.specs.Picture.{planeValue};
 ghost use Rattle.lines.specs.Lines.{changeValue, ValuesAsked, OneSideAsked};
-
-// The number is added to every sum.
-fn add_number(by: i64, sums: &mut [i64])
-    ensures { λ _. ⌜ now (sums .exit) ≡ tabulate (length (now (sums .entry))) (λ k. wrap (getD (now (sums .entry)) k (pos 0) +ℤ by)) ⌝ }
-{
-    let mut k = 0;
-    while k < sums.len() {
-        sums[k] = machine::wrapping_add(sums[k], by);
-        k += 1;
-    }
-}
-
-// Levels enter, and levels leave.
-fn exchange_levels(enter: &[i16], leave: &[i16], sums: &mut [i64])
-    requires { ⌜ (length (now enter) ≡ length (now sums)) × (length (now leave) ≡ length (now sums)) ⌝ }
-    ensures { λ _. ⌜ now (sums .exit) ≡ tabulate (length (now (sums .entry))) (λ k. wrap (getD (now (sums .entry)) k (pos 0) +ℤ (getD (now (enter .entry)) k (pos 0) -ℤ getD (now (leave .entry)) k (pos 0)))) ⌝ }
-{
-    let mut k = 0;
-    while k < sums.len() {
-        sums[k] = machine::wrapping_add(sums[k], machine::difference(enter[k], leave[k]));
-        k += 1;
-    }
-}
-
-// Products a·b of levels enter, and products c·d leave.
-fn exchange_products(a: &[i16], b: &[i16], c: &[i16], d: &[i16], sums: &mut [i64])
-    requires { ⌜ ValuesAsked (now a) (now b) (now c) (now d) (now sums) ⌝ }
-    ensures { λ _. ⌜ now (sums .exit) ≡ tabulate (length (now (sums .entry))) (λ k. wrap (getD (now (sums .entry)) k (pos 0) +ℤ (getD (now (a .entry)) k (pos 0) *ℤ getD (now (b .entry)) k (pos 0) -ℤ getD (now (c .entry)) k (pos 0) *ℤ getD (now (d .entry)) k (pos 0)))) ⌝ }
-{
-    let mut k = 0;
-    while k < sums.len() {
-        let enter = machine::product(a[k], b[k]);
-        let leave = machine::product(c[k], d[k]);
-        sums[k] = machine::wrapping_add(sums[k], machine::wrapping_sub(enter, leave));
-        k += 1;
-    }
-}
+use exchange_loops::add_number;
+use exchange_loops::exchange_levels;
+use exchange_loops::exchange_products;
 
 // The plane's values enter of the levels a of f and b of g, and leave of the levels c and d; of plane 0 `by` says how many.
 pub fn exchange_values(

@@ -14,7 +14,7 @@ use Rattle.lines.specs.declared.Line.{Line}
 use Rattle.lines.specs.Lines.{lineOf, lineValue, Lies}
 use Rattle.lines.proofs.LineValues.{line-value}
 use Rattle.lines.proofs.Exchanges.{line-on, lent-f, lent-g, lent-value}
-use Rattle.fill.specs.Fill.{NextRow}
+use Rattle.row_sums.specs.RowSums.{NextRow}
 use Rattle.fill.proofs.RowSums.{row-as}
 
 module _ (x : Source) (o along : Overlap) (v : Overlapping (x .size .rows) (x .shift .down) o) (h : Overlapping (x .size .columns) (x .shift .right) along)

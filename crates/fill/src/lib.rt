@@ -2,61 +2,15 @@
 // stand, and summed there.
 // For callers that have checked their inputs.
 ghost use mathlib.Core.Path.{_≡_};
-ghost use Prim.Native.Nat.{_≤_};
-ghost use lib.IntN.{pos};
-ghost use lib.ListN.{length, getD};
 ghost use Rattle.picture.specs.Picture.{source, planeAt};
 ghost use Rattle.cumulative.specs.Table.{tableOf};
-ghost use Rattle.fill.specs.Fill.{Buildable, RowRoom, RowAsked, rowFrom, NextRow, FirstRow};
+ghost use Rattle.fill.specs.Fill.{Buildable, RowAsked};
+ghost use Rattle.row_sums.specs.RowSums.{NextRow};
 use picture::Shift;
 use picture::Size;
-
-// The table's first row, from the plane's in its place: the running sums.
-fn first_row(columns: usize, table: &mut [i64])
-    requires { ⌜ columns ≤ length (now table) ⌝ }
-    ensures { λ _. ⌜ FirstRow columns (now (table .entry)) (now (table .exit)) ⌝ }
-{
-    let mut sum = 0i64;
-    let mut j = 0;
-    while j < columns {
-        sum = machine::wrapping_add(sum, table[j]);
-        table[j] = sum;
-        j += 1;
-    }
-}
-
-// The table's row at `start`, from the plane's in its place and the row above it.
-fn next_row(columns: usize, start: usize, table: &mut [i64])
-    requires { ⌜ RowRoom columns start (now table) ⌝ }
-    ensures { λ _. ⌜ NextRow columns start (rowFrom (now (table .entry)) start) (now (table .entry)) (now (table .exit)) ⌝ }
-{
-    let above = start - columns;
-    let mut sum = 0i64;
-    let mut j = 0;
-    while j < columns {
-        let at = start + j;
-        sum = machine::wrapping_add(sum, table[at]);
-        let number = machine::wrapping_add(table[above + j], sum);
-        table[at] = number;
-        j += 1;
-    }
-}
-
-// The same from a row of levels.
-fn next_levels(levels: &[i16], start: usize, table: &mut [i64])
-    requires { ⌜ RowRoom (length (now levels)) start (now table) ⌝ }
-    ensures { λ _. ⌜ NextRow (length (now (levels .entry))) start (λ q. getD (now (levels .entry)) q (pos 0)) (now (table .entry)) (now (table .exit)) ⌝ }
-{
-    let columns = levels.len();
-    let above = start - columns;
-    let mut sum = 0i64;
-    let mut j = 0;
-    while j < columns {
-        sum = machine::wrapping_add(sum, levels[j] as i64);
-        table[start + j] = machine::wrapping_add(table[above + j], sum);
-        j += 1;
-    }
-}
+use row_sums::first_row;
+use row_sums::next_levels;
+use row_sums::next_row;
 
 // Row i of the table, at `start`: the plane's row is written there, and summed.
 fn row_of_values(

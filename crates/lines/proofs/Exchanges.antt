@@ -20,7 +20,7 @@ use Rattle.numbers.proofs.Writes.{at, is-tabulate, tabulate-at, part-before, pa
 use Rattle.overlaps.specs.declared.Overlap.{Overlap}
 use Rattle.picture.specs.Picture.{Source, planeValue, planeAt}
 use Rattle.overlaps.specs.Overlaps.{Overlapping}
-use Rattle.planes.proofs.RowParts.{plane-1, plane-2, plane-3, plane-4, plane-5, tabulate-as}
+use Rattle.plane_values.proofs.ByPlane.{plane-1, plane-2, plane-3, plane-4, plane-5, tabulate-as}
 use Rattle.lines.specs.declared.Line.{Line}
 use Rattle.lines.specs.Lines.{lineOf, lineValue, changeValue, Numbers, Lies}
 use Rattle.lines.proofs.LineValues.{line-value, column-outside}

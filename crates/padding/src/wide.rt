@@ -14,7 +14,7 @@ pub fn load(size: Size, f: &[i16], g: &[i16], shift: Shift, plane: u32, y: usize
     let left = 256;
     let right = left + size.columns;
     if y < 128 {
-        planes::fill(&mut buf[left..right], 0);
+        plane_values::fill(&mut buf[left..right], 0);
         return;
     }
     let row = y - 128;
@@ -22,5 +22,5 @@ pub fn load(size: Size, f: &[i16], g: &[i16], shift: Shift, plane: u32, y: usize
         planes::part(size, f, g, shift, plane, row, 0, &mut buf[left..right]);
         return;
     }
-    planes::fill(&mut buf[left..right], 0);
+    plane_values::fill(&mut buf[left..right], 0);
 }

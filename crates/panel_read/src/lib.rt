@@ -42,7 +42,7 @@ fn count(n: i32) -> u32
 fn size_legal(size: Size) -> bool
     ensures { λ r. ⌜ r ≡ panelSize size ⌝ }
 {
-    if !legal::size_legal(size) {
+    if !legal_sizes::size_legal(size) {
         return false;
     }
     let rows = size.rows;
@@ -101,7 +101,7 @@ fn read_levels(text: &[u8], at: usize, levels: &mut [i16]) -> bool
         let Token::Number(level, after) = next(text, place) else {
             return false;
         };
-        if !legal::is_between(-32768, 32767, level) {
+        if !legal_windows::is_between(-32768, 32767, level) {
             return false;
         }
         levels[k] = level as i16;
@@ -128,7 +128,7 @@ fn read_picture(text: &[u8], at: usize, size: Size, levels: &mut [i16]) -> Parse
     if !read_levels(text, after, &mut levels[..n]) {
         return Parsed::Refused(10);
     }
-    if !legal::window_legal(window) {
+    if !legal_windows::window_legal(window) {
         return Parsed::Refused(3);
     }
     Parsed::Taken(size, window)

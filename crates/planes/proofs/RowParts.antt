@@ -1,7 +1,7 @@
--- A plane's values along a row: plane by plane, where all cells count, and where some do not.
+-- A plane's values along a row, where all cells count, and where some do not.
 -- Assumes nothing.
-use mathlib.Core.Path.{_≡_, refl, sym, _∙_, ap, ap₂}
-use Prim.Native.Nat.{ℕ, zero, suc, _+_, _-_, _*_, _≤_, _<_}
+use mathlib.Core.Path.{_≡_, sym, _∙_, ap, ap₂}
+use Prim.Native.Nat.{ℕ, suc, _+_, _-_, _*_, _≤_, _<_}
 use native.Mathlib.Omega.{arith}
 use native.Mathlib.Decide.{decLt}
 use native.Mathlib.Nat.{le-add-right, mul-le-mul-right}
@@ -9,7 +9,7 @@ use mathlib.Core.Bool.{Bool, _&&_}
 use mathlib.Core.List.{List}
 use lib.Dec.{T, leb, ltb, leb→le, ltb→lt, le→leb, lt→ltb}
 use lib.ListN.{length, take, drop}
-use lib.IntN.{ℤ, pos, natAbs, _+ℤ_, _*ℤ_}
+use lib.IntN.{ℤ, pos, natAbs, _+ℤ_}
 use Rattle.numbers.specs.Sum.{pick}
 use Rattle.numbers.specs.Grid.{tabulate}
 use Rattle.numbers.proofs.Tests.{and-left, and-right, and-both}
@@ -22,41 +22,8 @@ use Rattle.overlaps.specs.declared.Overlap.{Overlap}
 use Rattle.picture.specs.Size.{inRange, inside, cells}
 use Rattle.picture.specs.Picture.{Source, planeValue, counts, planeAt, levelOf, otherOf}
 use Rattle.overlaps.specs.Overlaps.{Overlapping, Clipped}
+use Rattle.plane_values.proofs.ByPlane.{tabulate-as}
 use Rattle.planes.specs.Parts.{paddedValue, rowValue}
-
--- ---- the planes, as code tells them apart
-pub plane-0 : (p : ℕ) (x y : ℤ) → p ≡ 0 → planeValue p x y ≡ pos 1
-unfolding planeValue
-plane-0 p x y e = rw e
-
-pub plane-1 : (p : ℕ) (x y : ℤ) → p ≡ 1 → planeValue p x y ≡ x
-unfolding planeValue
-plane-1 p x y e = rw e
-
-pub plane-2 : (p : ℕ) (x y : ℤ) → p ≡ 2 → planeValue p x y ≡ y
-unfolding planeValue
-plane-2 p x y e = rw e
-
-pub plane-3 : (p : ℕ) (x y : ℤ) → p ≡ 3 → planeValue p x y ≡ x *ℤ x
-unfolding planeValue
-plane-3 p x y e = rw e
-
-pub plane-4 : (p : ℕ) (x y : ℤ) → p ≡ 4 → planeValue p x y ≡ y *ℤ y
-unfolding planeValue
-plane-4 p x y e = rw e
-
-pub plane-5 : (p : ℕ) (x y : ℤ) → 5 ≤ p → planeValue p x y ≡ x *ℤ y
-unfolding planeValue
-plane-5 zero x y h = absurd (omega arith)
-plane-5 (suc zero) x y h = absurd (omega arith)
-plane-5 (suc (suc zero)) x y h = absurd (omega arith)
-plane-5 (suc (suc (suc zero))) x y h = absurd (omega arith)
-plane-5 (suc (suc (suc (suc zero)))) x y h = absurd (omega arith)
-plane-5 (suc (suc (suc (suc (suc p))))) x y h = refl
-
--- a list written out from a function is written out from an equal one
-pub tabulate-as : (n : ℕ) (f g : ℕ → ℤ) (l : List ℤ) → l ≡ tabulate n f → ((k : ℕ) → g k ≡ f k) → l ≡ tabulate n g
-tabulate-as n f g l e h = e ∙ tabulate-cong n f g (λ k k<. sym (h k))
 
 -- ---- zeros up to lo, zeros from hi on, and the values from lo to hi
 module _ (p : ℕ) (a b out before behind within : List ℤ) (lo m₁ m₂ m₃ : ℕ)

@@ -59,7 +59,7 @@ pub fn first(
     let columns = size.columns;
     let end = clip::high(0, shape::height(window), size.rows);
     let mut cells = [0i64; 1024];
-    planes::fill(work, 0);
+    plane_values::fill(work, 0);
     let mut m = 0;
     while m < end {
         reaching(

@@ -33,11 +33,11 @@ fn take_in(
 {
     let k = w - h;
     if k == 0 {
-        loops::finish_tips(a, c, rises, falls, 128 + m, 384 - m, work, out);
+        narrow_finish::finish_tips(a, c, rises, falls, 128 + m, 384 - m, work, out);
         return;
     }
     flat::flat(size, f, g, shift, plane, i, h, k, work, out);
-    loops::finish(rises, falls, 128 + m, 384 - m, work, out);
+    narrow_finish::finish(rises, falls, 128 + m, 384 - m, work, out);
 }
 
 // From row i to i+1, in the m'th row of a call: the work area moves on, and so do the slopes; c has the row that leaves in the middle.

@@ -15,7 +15,7 @@ pub fn first(size: Size, f: &[i16], g: &[i16], shift: Shift, plane: u32, a: usiz
 {
     let rows = size.rows;
     let end = clip::high(0, a, rows);
-    planes::fill(work, 0);
+    plane_values::fill(work, 0);
     let mut m = 0;
     while m < end {
         change::exchange(size, f, g, shift, plane, m, rows, work);

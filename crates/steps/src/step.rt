@@ -49,7 +49,7 @@ pub fn gain(
     requires { ⌜ RowAsked size (now f) (now g) i d (now row) ⌝ }
     ensures { λ _. ⌜ now (row .exit) ≡ tabulate (size .columns) (λ j. wrap (enterLeave size (planeAt (source size (now (f .entry)) (now (g .entry)) shift plane)) i d j)) ⌝ }
 {
-    planes::fill(row, 0);
+    plane_values::fill(row, 0);
     add_gain(size, f, g, shift, plane, i, d, row);
 }
 

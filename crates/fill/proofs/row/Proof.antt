@@ -15,7 +15,7 @@ use Rattle.picture.specs.Picture.{Source, source}
 use Rattle.picture.proofs.Refusals.{in-limits}
 use Rattle.overlaps.specs.declared.Overlap.{Overlap}
 use Rattle.overlaps.specs.Overlaps.{Overlapping}
-use Rattle.planes.proofs.RowParts.{plane-1, plane-2}
+use Rattle.plane_values.proofs.ByPlane.{plane-1, plane-2}
 use Rattle.lines.specs.declared.Line.{Line}
 use Rattle.lines.specs.Lines.{Lies}
 use Rattle.lines.proofs.LineValues.{line-lies}

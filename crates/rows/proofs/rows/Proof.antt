@@ -47,16 +47,16 @@ use Rattle.picture.specs.Size.{size}
 use Rattle.picture.specs.Window.{window}
 use Rattle.picture.specs.Picture.{shift, inputs}
 use Rattle.session.specs.Rows.{rowCall}
-use Rattle.rows.specs.Answers.{rowsOutcome}
+use Rattle.row_calls.specs.Answers.{rowsOutcome}
 use Rattle.rows.specs.declared.Session.{Session}
-use Rattle.rows.specs.declared.Moved.{Moved}
+use Rattle.row_calls.specs.declared.Moved.{Moved}
 use Rattle.rows.proofs.Passed.{after, passeds, passeds-go}
 use Rattle.rows.proofs.Session as T
 use Rattle.rows.proofs.Session.Laws as T′
-use Rattle.rows.proofs.Moved as R
-use Rattle.rows.proofs.Moved.Laws as R′
-use Rattle.rows.proofs.RowsAnswer as G
-use Rattle.rows.proofs.RowsAnswer.Laws as G′
+use Rattle.row_calls.proofs.Moved as R
+use Rattle.row_calls.proofs.Moved.Laws as R′
+use Rattle.row_calls.proofs.RowsAnswer as G
+use Rattle.row_calls.proofs.RowsAnswer.Laws as G′
 use Rattle.rows.proofs.rows_plain as rows-plain
 use Rattle.rows.proofs.rows_plain.Symbol as rows-plain-def
 use Rattle.rows.proofs.rows_plain.Symbol.{name as #rows·rows-plain}

@@ -1,7 +1,7 @@
 -- `padding::narrow::values` meets its contract. Assumes nothing.
 use borrow.Author.Needs.{needs}
 use native.Mathlib.Omega.{arith}
-use Rattle.planes.proofs.RowParts.{plane-0, plane-1, plane-2, tabulate-as}
+use Rattle.plane_values.proofs.ByPlane.{plane-0, plane-1, plane-2, tabulate-as}
 use Rattle.padding.proofs.narrow.values.Statement.{statement}
 use Rattle.padding.proofs.narrow.values.Tie as tie
 

@@ -8,7 +8,7 @@ use Rattle.numbers.proofs.Writes.{slice-length, part-length}
 use Rattle.picture.specs.Picture.{Source, source, planeAt}
 use Rattle.picture.proofs.Refusals.{in-limits}
 use Rattle.picture.proofs.Planes.{plane-past, plane-beside}
-use Rattle.planes.proofs.RowParts.{tabulate-as}
+use Rattle.plane_values.proofs.ByPlane.{tabulate-as}
 use Rattle.padding.proofs.Rows.{load-above, load-row, load-below}
 use Rattle.padding.proofs.wide.load.Statement.{statement}
 use Rattle.padding.proofs.wide.load.Tie as tie
