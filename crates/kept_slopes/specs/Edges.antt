@@ -1,16 +1,16 @@
 -- The slopes of a slanted window's edges as the code keeps them from row to row, and what its functions ask.
 -- Assumes nothing.
 use mathlib.Core.Path.{_≡_}
-use Prim.Native.Nat.{ℕ, zero, suc, _+_, _-_, _*_, _≤_, _<_}
+use Prim.Native.Nat.{ℕ, _+_, _-_, _*_, _≤_, _<_}
 use mathlib.Core.Bool.{false}
 use mathlib.Core.List.{List}
 use lib.Dec.{T}
 use lib.ListN.{length, getD}
-use lib.IntN.{ℤ, pos, _+ℤ_, _-ℤ_}
+use lib.IntN.{ℤ, pos, _+ℤ_}
 use Rattle.numbers.specs.Grid.{tabulate}
 use Rattle.numbers.specs.Wrap.{wrap}
 use Rattle.picture.specs.Size.{sizeLegal, cells}
-use Rattle.picture.specs.Window.{shapeOf, isRectangle, height, width}
+use Rattle.picture.specs.Window.{shapeOf, isRectangle}
 use Rattle.picture.specs.Picture.{Source, Inputs, Levels, planeAt}
 use Rattle.slopes.specs.Slopes.{padded, rising, falling, edgesChange}
 use Rattle.slopes.specs.Leans.{Blank, Holds}
@@ -53,18 +53,6 @@ pub record Started (x : Source) (i h w : ℕ) (a b rises falls : List ℤ) : Typ
   pub blank-a : Blank a (x .size .columns)
   pub blank-b : Blank b (x .size .columns)
   pub slopes : Slopes (padded (planeAt x)) (x .size .columns) w h (128 + i) 0 rises falls
-
--- the sum at column j of a row that begins with `corner`: from a column to the next its rising slopes come in and the falling ones of the next go
-unfoldable pub acrossSlopes : (corner : ℤ) → (rises falls : List ℤ) → (j : ℕ) → ℤ
-acrossSlopes corner rises falls zero = corner
-acrossSlopes corner rises falls (suc j) = wrap (acrossSlopes corner rises falls j +ℤ (getD rises (j + 128) (pos 0) -ℤ getD falls (j + 385) (pos 0)))
-
--- slopes, and room for a row twice
-pub record AcrossAsked (rises falls work out : List ℤ) : Type 0 where
-  pub length-rises : length rises ≡ 1536
-  pub length-falls : length falls ≡ 1536
-  pub few : length work ≤ 1024
-  pub room : length out ≡ length work
 
 -- the m'th row of a call, with its slopes, a work area, and room for a row
 pub record RowAsked (x : Source) (i m h w : ℕ) (a b c rises falls work out : List ℤ) : Type 0 where
@@ -110,25 +98,5 @@ pub record ManyAsked (x : Inputs) (i n : ℕ) (work out : List ℤ) : Type 0 whe
   pub inputs : Checked x
   pub slanted : isRectangle (shapeOf (x .window)) ≡ false
   pub rows : i + n < x .source .size .rows
-  pub room-work : length work ≡ x .source .size .columns
-  pub room : length out ≡ n * x .source .size .columns
-
--- ---- many rows of planes of levels
--- the same with the slopes of row i, and the row that leaves in the middle
-pub record AfterAsked (x : Inputs) (i n : ℕ) (a b c rises falls work out : List ℤ) : Type 0 where
-  pub plane : x .source .plane ≤ 2
-  pub many : ManyAsked x i n work out
-  pub rows : Rows (x .source .size .columns) a b c
-  pub slopes : Slopes (padded (planeAt (x .source))) (x .source .size .columns) (width (shapeOf (x .window))) (height (shapeOf (x .window))) (128 + i) 0 rises falls
-  pub leaving : Holds c (padded (planeAt (x .source)) (128 + i - height (shapeOf (x .window))))
-
--- checked inputs with a window that has slopes, the first rows of the picture, one at least, a work area, and room for those rows
-pub record FreshAsked (x : Inputs) (n : ℕ) (work out : List ℤ) : Type 0 where
-  pub inputs : Checked x
-  pub plane : x .source .plane ≤ 2
-  pub slanted : isRectangle (shapeOf (x .window)) ≡ false
-  pub high : 1 ≤ height (shapeOf (x .window))
-  pub some : 1 ≤ n
-  pub rows : n ≤ x .source .size .rows
   pub room-work : length work ≡ x .source .size .columns
   pub room : length out ≡ n * x .source .size .columns
