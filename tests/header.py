@@ -16,7 +16,7 @@ TYPES = "bindings/rust/src/types.rs"
 REFUSALS = "bindings/rust/src/refusal.rs"
 CONDITIONS = "crates/picture/specs/Conditions.antt"
 SIX_SUMS = "crates/statistics/specs/SixSums.antt"
-CHECKS = "crates/checks/src/lib.rt"
+WINDOWS = "crates/legal_windows/src/lib.rt"
 PANEL = "crates/panel_language/specs/Panel.antt"
 
 # What a number of Rattle, or of Rust, is in C.
@@ -46,9 +46,9 @@ CONSTANTS = {
     "LS_EMPTY": [(REPLIES, "const EMPTY: i32 = @;"), (BINDING, "const EMPTY: i32 = @;")],
     "LS_FLAT": [(REPLIES, "const FLAT: i32 = @;"), (BINDING, "const FLAT: i32 = @;")],
     "LS_NOWHERE": [(REPLIES, "const NOWHERE: i32 = @;"), (BINDING, "const NOWHERE: i32 = @;")],
-    "LS_RECTANGLE": [(CHECKS, "if shape == @ { return rectangle_legal("), (TYPES, "shape: @, first: a, second: b")],
-    "LS_DIAMOND": [(CHECKS, "if shape == @ { return diamond_legal("), (TYPES, "shape: @, first: r, second: 0")],
-    "LS_HEXAGON": [(CHECKS, "if shape == @ { return hexagon_legal("), (TYPES, "shape: @, first: k, second: h")],
+    "LS_RECTANGLE": [(WINDOWS, "if shape == @ { return rectangle_legal("), (TYPES, "shape: @, first: a, second: b")],
+    "LS_DIAMOND": [(WINDOWS, "if shape == @ { return diamond_legal("), (TYPES, "shape: @, first: r, second: 0")],
+    "LS_HEXAGON": [(WINDOWS, "if shape == @ { return hexagon_legal("), (TYPES, "shape: @, first: k, second: h")],
     "LS_PLANE_ONE": [(SIX_SUMS, " n = directSum (onPlane x @)"), (TYPES, "ONE: Plane = Plane(@)")],
     "LS_PLANE_F": [(SIX_SUMS, " s = directSum (onPlane x @)"), (TYPES, "F: Plane = Plane(@)")],
     "LS_PLANE_G": [(SIX_SUMS, " t = directSum (onPlane x @)"), (TYPES, "G: Plane = Plane(@)")],
