@@ -5,7 +5,7 @@ ghost use lib.Dec.{T};
 ghost use Rattle.picture.specs.Window.{windowLegal, shapeOf};
 ghost use Rattle.picture.specs.Picture.{source, inputs, planeAt};
 ghost use Rattle.session.specs.Rows.{strip, Advanced};
-ghost use Rattle.advance.specs.Asked.{ManyAsked, SlantedAsked, Pays};
+ghost use Rattle.advance.specs.Asked.{ManyAsked, SlantedAsked, Pays, FromTop};
 use picture::Shift;
 use picture::Size;
 use picture::Window;
@@ -106,6 +106,27 @@ fn edges_pay(window: Window, n: usize) -> bool
     n >= 2
 }
 
+// Whether row 0 comes by the slopes too: at position 0, of ones and levels.
+fn from_top(position: usize, window: Window, plane: u32, n: usize) -> bool
+    requires { ⌜ T (windowLegal window) ⌝ }
+    ensures { λ r. ⌜ FromTop position window plane n r ⌝ }
+{
+    let rectangle = shape::is_rectangle(window);
+    if rectangle {
+        return false;
+    }
+    if shape::height(window) == 0 {
+        return false;
+    }
+    if position > 0 {
+        return false;
+    }
+    if plane > 2 {
+        return false;
+    }
+    n >= 1
+}
+
 // n rows from a position on.
 pub fn many(
     position: usize,
@@ -122,6 +143,10 @@ pub fn many(
     requires { ⌜ ManyAsked (inputs size (now f) (now g) window shift plane) position n (now work) (now out) ⌝ }
     ensures { λ _. ⌜ Advanced (strip size (planeAt (source size (now (f .entry)) (now (g .entry)) shift plane)) (shapeOf window) position n (now (work .entry))) (now (work .exit)) (now (out .exit)) ⌝ }
 {
+    if from_top(position, window, plane, n) {
+        edges::narrow::fresh(size, f, g, window, shift, plane, n, work, out);
+        return;
+    }
     if edges_pay(window, n) {
         by_edges(position, size, f, g, window, shift, plane, n, work, out);
         return;

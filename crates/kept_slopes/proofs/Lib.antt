@@ -2,3 +2,4 @@ pub mod Kept
 pub mod Asks
 pub mod Advances
 pub mod First
+pub mod Across

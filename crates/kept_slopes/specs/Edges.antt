@@ -1,17 +1,18 @@
 -- The slopes of a slanted window's edges as the code keeps them from row to row, and what its functions ask.
 -- Assumes nothing.
 use mathlib.Core.Path.{_≡_}
-use Prim.Native.Nat.{ℕ, _+_, _-_, _*_, _≤_, _<_}
-use mathlib.Core.Bool.{false}
+use Prim.Native.Nat.{ℕ, zero, suc, _+_, _-_, _*_, _≤_, _<_}
+use mathlib.Core.Bool.{Bool, false, not}
 use mathlib.Core.List.{List}
 use lib.Dec.{T}
-use lib.ListN.{length, getD}
-use lib.IntN.{ℤ, pos, _+ℤ_}
+use lib.ListN.{length, getD, take}
+use lib.IntN.{ℤ, pos, _+ℤ_, _-ℤ_}
 use Rattle.numbers.specs.Grid.{tabulate}
 use Rattle.numbers.specs.Wrap.{wrap}
 use Rattle.picture.specs.Size.{sizeLegal, cells}
-use Rattle.picture.specs.Window.{shapeOf, isRectangle}
+use Rattle.picture.specs.Window.{shapeOf, isRectangle, height, width}
 use Rattle.picture.specs.Picture.{Source, Inputs, Levels, planeAt}
+use Rattle.session.specs.Rows.{workAfter, strip, Advanced}
 use Rattle.slopes.specs.Slopes.{padded, rising, falling, edgesChange}
 use Rattle.slopes.specs.Leans.{Blank, Holds}
 use Rattle.steps.specs.Asked.{Checked}
@@ -53,6 +54,18 @@ pub record Started (x : Source) (i h w : ℕ) (a b rises falls : List ℤ) : Typ
   pub blank-a : Blank a (x .size .columns)
   pub blank-b : Blank b (x .size .columns)
   pub slopes : Slopes (padded (planeAt x)) (x .size .columns) w h (128 + i) 0 rises falls
+
+-- the sum at column j of a row that begins with `corner`: from a column to the next its rising slopes come in and the falling ones of the next go
+unfoldable pub acrossSlopes : (corner : ℤ) → (rises falls : List ℤ) → (j : ℕ) → ℤ
+acrossSlopes corner rises falls zero = corner
+acrossSlopes corner rises falls (suc j) = wrap (acrossSlopes corner rises falls j +ℤ (getD rises (j + 128) (pos 0) -ℤ getD falls (j + 385) (pos 0)))
+
+-- slopes, and room for a row twice
+pub record AcrossAsked (rises falls work out : List ℤ) : Type 0 where
+  pub length-rises : length rises ≡ 1536
+  pub length-falls : length falls ≡ 1536
+  pub few : length work ≤ 1024
+  pub room : length out ≡ length work
 
 -- the m'th row of a call, with its slopes, a work area, and room for a row
 pub record RowAsked (x : Source) (i m h w : ℕ) (a b c rises falls work out : List ℤ) : Type 0 where
@@ -100,3 +113,58 @@ pub record ManyAsked (x : Inputs) (i n : ℕ) (work out : List ℤ) : Type 0 whe
   pub rows : i + n < x .source .size .rows
   pub room-work : length work ≡ x .source .size .columns
   pub room : length out ≡ n * x .source .size .columns
+
+-- ---- many rows of planes of levels
+-- the same with the slopes of row i, and the row that leaves in the middle
+pub record AfterAsked (x : Inputs) (i n : ℕ) (a b c rises falls work out : List ℤ) : Type 0 where
+  pub plane : x .source .plane ≤ 2
+  pub many : ManyAsked x i n work out
+  pub rows : Rows (x .source .size .columns) a b c
+  pub slopes : Slopes (padded (planeAt (x .source))) (x .source .size .columns) (width (shapeOf (x .window))) (height (shapeOf (x .window))) (128 + i) 0 rises falls
+  pub leaving : Holds c (padded (planeAt (x .source)) (128 + i - height (shapeOf (x .window))))
+
+-- checked inputs with a window that has slopes, the first rows of the picture, one at least, a work area, and room for those rows
+pub record FreshAsked (x : Inputs) (n : ℕ) (work out : List ℤ) : Type 0 where
+  pub inputs : Checked x
+  pub plane : x .source .plane ≤ 2
+  pub slanted : isRectangle (shapeOf (x .window)) ≡ false
+  pub high : 1 ≤ height (shapeOf (x .window))
+  pub some : 1 ≤ n
+  pub rows : n ≤ x .source .size .rows
+  pub room-work : length work ≡ x .source .size .columns
+  pub room : length out ≡ n * x .source .size .columns
+
+-- the slopes of row 0, a work area and room for a row, where row 0 is to come by its slopes
+pub record TopAsked (x : Inputs) (fresh : Bool) (rises falls work out : List ℤ) : Type 0 where
+  pub inputs : Checked x
+  pub slanted : isRectangle (shapeOf (x .window)) ≡ false
+  pub high : T fresh → 1 ≤ height (shapeOf (x .window))
+  pub slopes : T fresh → Slopes (padded (planeAt (x .source))) (x .source .size .columns) (width (shapeOf (x .window))) (height (shapeOf (x .window))) 128 0 rises falls
+  pub length-rises : length rises ≡ 1536
+  pub length-falls : length falls ≡ 1536
+  pub room-work : length work ≡ x .source .size .columns
+  pub room : T fresh → x .source .size .columns ≤ length out
+
+-- the work area of row 0, and its row at the front of the output area; or nothing, and the other rows begin at the front
+pub record TopDone (x : Inputs) (fresh : Bool) (before work out : List ℤ) (begin : ℕ) : Type 0 where
+  pub begins : T fresh → begin ≡ x .source .size .columns
+  pub row : T fresh → work ≡ workAfter (x .source .size) (planeAt (x .source)) (shapeOf (x .window)) 0 before
+  pub front : T fresh → take (x .source .size .columns) out ≡ work
+  pub none : T (not fresh) → begin ≡ 0
+  pub kept : T (not fresh) → work ≡ before
+
+-- n rows behind row i, and row 0 before them where they are fresh
+pub record FromAsked (x : Inputs) (fresh : Bool) (i n : ℕ) (work out : List ℤ) : Type 0 where
+  pub inputs : Checked x
+  pub plane : x .source .plane ≤ 2
+  pub slanted : isRectangle (shapeOf (x .window)) ≡ false
+  pub high : T fresh → 1 ≤ height (shapeOf (x .window))
+  pub at-0 : T fresh → i ≡ 0
+  pub rows : i + n < x .source .size .rows
+  pub room-work : length work ≡ x .source .size .columns
+  pub room-fresh : T fresh → length out ≡ suc n * x .source .size .columns
+  pub room-behind : T (not fresh) → length out ≡ n * x .source .size .columns
+
+pub record FromDone (x : Inputs) (fresh : Bool) (i n : ℕ) (before work out : List ℤ) : Type 0 where
+  pub from-0 : T fresh → Advanced (strip (x .source .size) (planeAt (x .source)) (shapeOf (x .window)) 0 (suc n) before) work out
+  pub behind : T (not fresh) → Advanced (strip (x .source .size) (planeAt (x .source)) (shapeOf (x .window)) (suc i) n before) work out

@@ -23,7 +23,7 @@ output-slanted z (rectangle a b) work out e o = absurd (true≢false e)
 output-slanted z (slanted s) work out e o = o
 
 -- a part put behind what is done is done too
-put-behind : (start n : ℕ) (out part : List ℤ) → start ≤ length out → length part ≡ n → take (start + n) (putMid start n out part) ≡ take start out ++ part
+pub put-behind : (start n : ℕ) (out part : List ℤ) → start ≤ length out → length part ≡ n → take (start + n) (putMid start n out part) ≡ take start out ++ part
 put-behind start n out part h e =
     ap (take (start + n)) (sym (append-assoc (take start out) part (postOf start n out)))
     ∙ take-at (take start out ++ part) (postOf start n out) (start + n) (length-append (take start out) part ∙ ap₂ (λ (a b : ℕ). a + b) (length-take-le start out h) e)
