@@ -39,7 +39,7 @@ fn area(
         return;
     }
     if position == 0 {
-        slanted::first(size, f, g, window, shift, plane, work, row);
+        first_rows::first(size, f, g, window, shift, plane, work, row);
         return;
     }
     let i = position - 1;

@@ -9,8 +9,8 @@ use machine::magnitude;
 use statistics::CentralAnswer;
 use statistics::CentralMoments;
 use statistics::Sums;
-use wide::at_most;
 use wide::multiply;
+use wide_order::at_most;
 
 // The bounds of 9. N is tested first, so that its multiples fit.
 fn unbounded(z: Sums) -> bool

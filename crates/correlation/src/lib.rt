@@ -14,7 +14,7 @@ use wide::Product;
 use wide::Scaled;
 use wide::multiply;
 use wide::scale;
-use wide::scaled_at_most;
+use wide_order::scaled_at_most;
 
 // The largest c with c²·x ≤ y, by halving the numbers up to 1,000.
 fn wide_root(y: Scaled, x: Product) -> u32

@@ -10,7 +10,6 @@ use picture::Size;
 use picture::Window;
 
 pub mod narrow; // narrow.rt: planes 0 to 2, whose values are ones and levels
-pub mod wide; // wide.rt: planes 3 to 5, whose values are products of levels
 
 // n rows behind row i, of which the work area has the sums.
 pub fn many(
@@ -32,5 +31,5 @@ pub fn many(
         narrow::many(size, f, g, window, shift, plane, i, n, work, out);
         return;
     }
-    wide::many(size, f, g, window, shift, plane, i, n, work, out);
+    wide_edges::many(size, f, g, window, shift, plane, i, n, work, out);
 }

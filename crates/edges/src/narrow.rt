@@ -10,9 +10,9 @@ use picture::Cell;
 use picture::Shift;
 use picture::Size;
 use picture::Window;
-use slope_rows::narrow::row;
-use slope_starts::narrow::first;
-use slope_starts::narrow::start;
+use slope_rows::row;
+use slope_starts::first;
+use slope_starts::start;
 
 // n rows behind row i, from the slopes of row i; c has the row that leaves in the middle.
 fn after(

@@ -2,9 +2,7 @@
 -- Assumes nothing.
 use mathlib.Core.Path.{_≡_}
 use Prim.Native.Nat.{ℕ, _≤_}
-use mathlib.Core.Bool.{Bool, true, false}
 use mathlib.Core.List.{List}
-use mathlib.Core.Option.{Option, none, some}
 use lib.Dec.{T}
 use lib.ListN.{length, take}
 use lib.IntN.{ℤ}
@@ -41,11 +39,6 @@ windowTold text z (WindowTaken w after) = framed z w (levelsOf (cells z) (number
 
 pub record WindowIs (text : List ℕ) (at : ℕ) (r : WindowRead) : Type 0 where
   pub same : (z : Size) → filled z (numbersFrom text at) ≡ windowTold text z r
-
--- the levels that an area holds, where they were read
-abbrev pub levelsTold : Bool → List ℤ → Option (List ℤ)
-levelsTold true l = some l
-levelsTold false l = none
 
 -- a legal size, and an area that has room for its levels
 pub record Roomy (z : Size) (area : List ℤ) : Type 0 where

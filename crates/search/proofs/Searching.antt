@@ -1,4 +1,4 @@
--- The search from a place on: it passes a place that fails the test, and stops at one that holds it.
+-- The search row by row: it passes a row that has no steady cell, and stops at one that has.
 -- Assumes nothing.
 use mathlib.Core.Path.{_≡_}
 use Prim.Native.Nat.{ℕ, suc, _+_, _-_, _≤_, _<_}
@@ -11,32 +11,6 @@ use Rattle.picture.specs.Picture.{Inputs}
 use Rattle.statistics.specs.SixSums.{sixSums}
 use Rattle.statistics.specs.Voice.{voice}
 use Rattle.smoothed.specs.Steady.{isSteady, findColumn, orElse, findCell, firstSteady}
-
--- ---- along a row
--- at the start
-pub whole-row : (test : ℕ → Bool) (n : ℕ) → findColumn test 0 (n - 0) ≡ findColumn test 0 n
-whole-row test n =
-    let m : n - 0 ≡ n = omega arith in
-    rw m
-
-module _ (test : ℕ → Bool) (j n : ℕ) where
-  pub column-passed : j < n → test j ≡ false → findColumn test j (n - j) ≡ findColumn test (j + 1) (n - (j + 1))
-  unfolding findColumn
-  column-passed h e =
-      let m : n - j ≡ suc (n - (j + 1)) = omega arith in
-      rw (m, findColumn, e, add-one j)
-
-  pub column-found : j < n → test j ≡ true → findColumn test j (n - j) ≡ some j
-  unfolding findColumn
-  column-found h e =
-      let m : n - j ≡ suc (n - (j + 1)) = omega arith in
-      rw (m, findColumn, e)
-
-  pub no-column : n ≤ j → findColumn test j (n - j) ≡ none
-  unfolding findColumn
-  no-column h =
-      let m : n - j ≡ 0 = omega arith in
-      rw m
 
 -- ---- row by row
 module _ (test : ℕ → ℕ → Bool) (columns i n : ℕ) where

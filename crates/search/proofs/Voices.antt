@@ -1,25 +1,27 @@
 -- The voice answer of a cell: it is never refused, and N, S and A alone decide it.
 -- Assumes nothing.
-use mathlib.Core.Path.{_≡_, refl, sym, _∙_, ap}
+use mathlib.Core.Path.{_≡_, refl, _∙_, ap}
 use mathlib.Core.Bool.{Bool, false}
-use Prim.Native.Nat.{ℕ}
+use mathlib.Core.List.{List}
+use Prim.Native.Nat.{ℕ, _+_, _<_}
 use native.Mathlib.Omega.{arith}
-use lib.IntN.{ℤ, pos, *ℤ-zero}
+use lib.ListN.{getD}
+use lib.IntN.{pos, ℤ, *ℤ-zero}
 use lib.Signed.{≤ℤ-refl}
 use Rattle.picture.specs.Refusal.{Outcome, refused, answered}
 use Rattle.picture.specs.Picture.{Inputs}
 use Rattle.picture.specs.Direct.{directSum}
 use Rattle.steps.specs.Asked.{Checked}
 use Rattle.statistics.specs.declared.Sums.{Sums}
-use Rattle.statistics.specs.declared.Voice as declared
 use Rattle.statistics.specs.SixSums.{onPlane, sixSums, impossible}
 use Rattle.statistics.specs.Moments.{mean, deviation}
 use Rattle.statistics.specs.Voice.{Voice, voice, voiceCall}
-use Rattle.statistics.specs.Answers.{voiceOf}
 use Rattle.statistics.proofs.Bounds.{possible-has, possible-of, answers}
 use Rattle.statistics.proofs.Possible.{sums-possible}
-use Rattle.smoothed.specs.Steady.{isSteady, findCell, firstSteady}
-use Rattle.search.specs.Asked.{firstSums}
+use Rattle.smoothed.specs.Steady.{isSteady, findColumn, findCell, firstSteady}
+use Rattle.hearing.specs.Hearing.{firstSums, sumsAt, steadyIn}
+use Rattle.hearing.proofs.Columns.{same-columns}
+use Rattle.search.proofs.Searching.{steadyAt}
 
 -- ---- N, S and A alone
 pub voice-first : (z : Sums) → voice (firstSums (z .n) (z .s) (z .a)) ≡ voice z
@@ -66,15 +68,17 @@ pub first-by-answers : (x : Inputs) → Checked x → firstSteady x ≡ findCell
 unfolding firstSteady
 first-by-answers x c = simp (voice-answers x c)
 
--- ---- from N, S and A of a cell
-module _ (x : Inputs) (c : Checked x) (i j : ℕ) (n s a : ℤ)
-    (n-is : n ≡ directSum (onPlane x 0) i j) (s-is : s ≡ directSum (onPlane x 1) i j) (a-is : a ≡ directSum (onPlane x 3) i j) where
-  sums-are : firstSums n s a ≡ firstSums (sixSums x i j .n) (sixSums x i j .s) (sixSums x i j .a)
-  sums-are = rw (n-is, s-is, a-is)
+-- ---- from N, S and A of a row's cells
+module _ (x : Inputs) (c : Checked x) (i from : ℕ) (n s a : List ℤ)
+    (n-is : (j : ℕ) → j < x .source .size .columns → getD n (from + j) (pos 0) ≡ directSum (onPlane x 0) i j)
+    (s-is : (j : ℕ) → j < x .source .size .columns → getD s (from + j) (pos 0) ≡ directSum (onPlane x 1) i j)
+    (a-is : (j : ℕ) → j < x .source .size .columns → getD a (from + j) (pos 0) ≡ directSum (onPlane x 3) i j) where
+  sums-are : (j : ℕ) → j < x .source .size .columns → sumsAt n s a (from + j) ≡ firstSums (sixSums x i j .n) (sixSums x i j .s) (sixSums x i j .a)
+  sums-are j h = rw (n-is j h, s-is j h, a-is j h)
 
-  pub row-possible : impossible (firstSums n s a) ≡ false
-  row-possible = ap impossible sums-are ∙ possible-first (sixSums x i j) (cell-possible x c i j)
+  pub row-possible : (j : ℕ) → j < x .source .size .columns → impossible (sumsAt n s a (from + j)) ≡ false
+  row-possible j h = ap impossible (sums-are j h) ∙ possible-first (sixSums x i j) (cell-possible x c i j)
 
-  -- what is heard of those numbers is the voice of the cell
-  pub row-steady : (v : declared.Voice) → voiceOf v ≡ voice (firstSums n s a) → isSteady (voice (sixSums x i j)) ≡ isSteady (voiceOf v)
-  row-steady v e = ap isSteady (sym (e ∙ ap voice sums-are ∙ voice-first (sixSums x i j)))
+  -- the first steady column of those numbers is the first steady cell of the row
+  pub row-steady : findColumn (steadyIn n s a from) 0 (x .source .size .columns) ≡ findColumn (steadyAt x i) 0 (x .source .size .columns)
+  row-steady = same-columns (steadyIn n s a from) (steadyAt x i) 0 (x .source .size .columns) (λ j h. ap isSteady (ap voice (sums-are j (omega (arith, h))) ∙ voice-first (sixSums x i j)))

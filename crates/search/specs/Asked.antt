@@ -4,14 +4,9 @@ use mathlib.Core.Path.{_≡_}
 use Prim.Native.Nat.{_*_}
 use mathlib.Core.List.{List}
 use lib.ListN.{length}
-use lib.IntN.{ℤ, pos}
+use lib.IntN.{ℤ}
 use Rattle.picture.specs.Picture.{Inputs}
 use Rattle.steps.specs.Asked.{Checked}
-use Rattle.statistics.specs.declared.Sums.{Sums}
-
--- the six sums of f alone: those of g are 0
-abbrev pub firstSums : (n s a : ℤ) → Sums
-firstSums n s a = record { n = n; s = s; t = pos 0; a = a; b = pos 0; p = pos 0 }
 
 -- checked inputs, three work areas and room for three blocks of sums
 pub record SearchRowsAsked (x : Inputs) (counts totals squares n s a : List ℤ) : Type 0 where

@@ -1,49 +1,23 @@
-// The first steady cell: N, S and A of a row from its row steps, and the voice answer of each of its cells.
+// The first steady cell: N, S and A of a row from its row steps, and the first of its cells whose voice answer is Steady.
 // For callers that have checked their inputs.
 ghost use mathlib.Core.Path.{_≡_};
-ghost use mathlib.Core.Bool.{false};
 ghost use Rattle.picture.specs.Refusal.{answered};
 ghost use Rattle.picture.specs.Picture.{inputs};
 ghost use Rattle.steps.specs.Asked.{Checked};
-ghost use Rattle.statistics.specs.SixSums.{impossible};
-ghost use Rattle.statistics.specs.Voice.{voice};
-ghost use Rattle.statistics.specs.Answers.{voiceOf};
 ghost use Rattle.smoothed.specs.Steady.{firstSteady};
 ghost use Rattle.search.specs.Answers.{steadyOutcome};
-ghost use Rattle.search.specs.Asked.{firstSums, SearchRowsAsked};
+ghost use Rattle.search.specs.Asked.{SearchRowsAsked};
 use blocks::next;
 use picture::Cell;
 use picture::Shift;
 use picture::Size;
 use picture::Window;
-use statistics::Sums;
-use statistics::Voice;
-use statistics::VoiceAnswer;
 
 // The answer of the steady search: the number of its refusal, None, or the cell.
 pub enum SteadyAnswer {
     Refused(u32),
     Nowhere,
     Found(Cell),
-}
-
-// The voice answer to the sums of a cell, which are never refused. Those of g have no part in it, and stand at 0.
-fn heard(n: i64, s: i64, a: i64) -> Voice
-    requires { ⌜ impossible (firstSums n s a) ≡ false ⌝ }
-    ensures { λ r. ⌜ voiceOf r ≡ voice (firstSums n s a) ⌝ }
-{
-    let sums = Sums {
-        n,
-        s,
-        t: 0,
-        a,
-        b: 0,
-        p: 0,
-    };
-    match moments::voice_answer(sums) {
-        VoiceAnswer::Heard(voice) => voice,
-        VoiceAnswer::Refused(_) => Voice::Empty,
-    }
 }
 
 // "the first cell in row order whose voice answer is Steady"; counts, totals and squares are room for a row each, n, s and a for 16 rows.
@@ -66,24 +40,15 @@ fn first(
     let rows = size.rows;
     let columns = size.columns;
     let mut i = 0;
-    let mut j = 0;
-    'search: while i < rows {
+    while i < rows {
         next(i, size, f, g, window, shift, 0, counts, n);
         next(i, size, f, g, window, shift, 1, totals, s);
         next(i, size, f, g, window, shift, 3, squares, a);
-        let from = i % 16 * columns;
-        j = 0;
-        while j < columns {
-            let Voice::Steady(_) = heard(n[from + j], s[from + j], a[from + j]) else {
-                j += 1;
-                continue;
-            };
-            break 'search;
+        let column = hearing::column(i % 16 * columns, columns, n, s, a);
+        if column < columns {
+            return SteadyAnswer::Found(Cell { row: i, column });
         }
         i += 1;
-    }
-    if i < rows {
-        return SteadyAnswer::Found(Cell { row: i, column: j });
     }
     SteadyAnswer::Nowhere
 }
