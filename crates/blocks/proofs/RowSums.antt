@@ -3,7 +3,7 @@
 use mathlib.Core.Path.{_≡_, sym, _∙_, ap, subst}
 use Prim.Native.Nat.{ℕ, zero, suc, _+_, _-_, _*_, _%_, _^_, _≤_, _<_}
 use native.Mathlib.Omega.{arith}
-use native.Mathlib.Nat.{mod-le, mod-lt, suc-mod, mod-eq-of-lt}
+use native.Mathlib.Nat.{mod-le, mod-lt, suc-mod, mod-eq-of-lt, add-mod-right}
 use native.Mathlib.Decide.{decLt}
 use mathlib.Core.List.{List}
 use lib.ListN.{length}
@@ -128,3 +128,22 @@ row-first x i work block below e b =
 -- before row 0 there is nothing
 pub held-none : (x : Inputs) (work block : List ℤ) → Held x 0 work block
 held-none x work block = record { fresh = λ e. tt; begun = λ h. absurd (omega (arith, h)) }
+
+-- ---- a whole block
+module _ (x : Inputs) (i : ℕ) (start : i % 16 ≡ 0) where
+  -- the sums of its first row come with the block
+  pub block-of : (work block : List ℤ) → RowSums x i work block → Block x i work block
+  block-of work block r =
+      let one : suc i % 16 ≡ 1 = suc-mod i 16 ∙ ap (λ (m : ℕ). suc m % 16) start in
+      let back : suc i - suc i % 16 ≡ i = omega (arith, one) in
+      subst (λ (m : ℕ). Block x m work block) back (r .next .begun (omega (arith, one)))
+
+  -- before it stands a work area
+  pub held-first : (work block : List ℤ) → ready x i work → Held x i work block
+  held-first work block h = record { fresh = λ e. h; begun = λ l. absurd (omega (arith, l, start)) }
+
+  -- the rows behind it, if there are any, begin a block too
+  pub next-start : i + rowsIn x i < x .source .size .rows → (i + rowsIn x i) % 16 ≡ 0
+  next-start h =
+      let full : rowsIn x i ≡ 16 = omega (arith, h) in
+      ap (λ (m : ℕ). (i + m) % 16) full ∙ add-mod-right i 16 ∙ start

@@ -3,7 +3,7 @@
 use mathlib.Core.Path.{_≡_, refl, _∙_, ap}
 use mathlib.Core.Bool.{Bool, false}
 use mathlib.Core.List.{List}
-use Prim.Native.Nat.{ℕ, _+_, _<_}
+use Prim.Native.Nat.{ℕ, _+_, _*_, _<_}
 use native.Mathlib.Omega.{arith}
 use lib.ListN.{getD}
 use lib.IntN.{pos, ℤ, *ℤ-zero}
@@ -18,9 +18,9 @@ use Rattle.statistics.specs.Moments.{mean, deviation}
 use Rattle.statistics.specs.Voice.{Voice, voice, voiceCall}
 use Rattle.statistics.proofs.Bounds.{possible-has, possible-of, answers}
 use Rattle.statistics.proofs.Possible.{sums-possible}
-use Rattle.smoothed.specs.Steady.{isSteady, findColumn, findCell, firstSteady}
+use Rattle.smoothed.specs.Steady.{isSteady, findCell, firstSteady}
 use Rattle.hearing.specs.Hearing.{firstSums, sumsAt, steadyIn}
-use Rattle.hearing.proofs.Columns.{same-columns}
+use Rattle.hearing.proofs.Searching.{same-cells}
 use Rattle.search.proofs.Searching.{steadyAt}
 
 -- ---- N, S and A alone
@@ -68,17 +68,19 @@ pub first-by-answers : (x : Inputs) → Checked x → firstSteady x ≡ findCell
 unfolding firstSteady
 first-by-answers x c = simp (voice-answers x c)
 
--- ---- from N, S and A of a row's cells
-module _ (x : Inputs) (c : Checked x) (i from : ℕ) (n s a : List ℤ)
-    (n-is : (j : ℕ) → j < x .source .size .columns → getD n (from + j) (pos 0) ≡ directSum (onPlane x 0) i j)
-    (s-is : (j : ℕ) → j < x .source .size .columns → getD s (from + j) (pos 0) ≡ directSum (onPlane x 1) i j)
-    (a-is : (j : ℕ) → j < x .source .size .columns → getD a (from + j) (pos 0) ≡ directSum (onPlane x 3) i j) where
-  sums-are : (j : ℕ) → j < x .source .size .columns → sumsAt n s a (from + j) ≡ firstSums (sixSums x i j .n) (sixSums x i j .s) (sixSums x i j .a)
-  sums-are j h = rw (n-is j h, s-is j h, a-is j h)
+-- ---- from N, S and A of the rows from row i on
+module _ (x : Inputs) (c : Checked x) (i m : ℕ) (n s a : List ℤ)
+    (n-is : (r j : ℕ) → r < m → j < x .source .size .columns → getD n (r * x .source .size .columns + j) (pos 0) ≡ directSum (onPlane x 0) (i + r) j)
+    (s-is : (r j : ℕ) → r < m → j < x .source .size .columns → getD s (r * x .source .size .columns + j) (pos 0) ≡ directSum (onPlane x 1) (i + r) j)
+    (a-is : (r j : ℕ) → r < m → j < x .source .size .columns → getD a (r * x .source .size .columns + j) (pos 0) ≡ directSum (onPlane x 3) (i + r) j) where
+  sums-are : (r j : ℕ) → r < m → j < x .source .size .columns → sumsAt n s a (r * x .source .size .columns + j) ≡ firstSums (sixSums x (i + r) j .n) (sixSums x (i + r) j .s) (sixSums x (i + r) j .a)
+  sums-are r j h l = rw (n-is r j h l, s-is r j h l, a-is r j h l)
 
-  pub row-possible : (j : ℕ) → j < x .source .size .columns → impossible (sumsAt n s a (from + j)) ≡ false
-  row-possible j h = ap impossible (sums-are j h) ∙ possible-first (sixSums x i j) (cell-possible x c i j)
+  pub rows-possible : (r j : ℕ) → r < m → j < x .source .size .columns → impossible (sumsAt n s a (r * x .source .size .columns + j)) ≡ false
+  rows-possible r j h l = ap impossible (sums-are r j h l) ∙ possible-first (sixSums x (i + r) j) (cell-possible x c (i + r) j)
 
-  -- the first steady column of those numbers is the first steady cell of the row
-  pub row-steady : findColumn (steadyIn n s a from) 0 (x .source .size .columns) ≡ findColumn (steadyAt x i) 0 (x .source .size .columns)
-  row-steady = same-columns (steadyIn n s a from) (steadyAt x i) 0 (x .source .size .columns) (λ j h. ap isSteady (ap voice (sums-are j (omega (arith, h))) ∙ voice-first (sixSums x i j)))
+  -- the first steady cell of those numbers is that of the rows
+  pub rows-steady : findCell (steadyIn (x .source .size .columns) n s a) (x .source .size .columns) 0 m ≡ findCell (λ r. steadyAt x (i + r)) (x .source .size .columns) 0 m
+  rows-steady =
+      same-cells (steadyIn (x .source .size .columns) n s a) (λ r. steadyAt x (i + r)) (x .source .size .columns) 0 m
+      (λ r j h l. ap isSteady (ap voice (sums-are r j (omega (arith, h)) l) ∙ voice-first (sixSums x (i + r) j)))

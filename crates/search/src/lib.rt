@@ -1,4 +1,4 @@
-// The first steady cell: N, S and A of a row from its row steps, and the first of its cells whose voice answer is Steady.
+// The first steady cell: N, S and A of 16 rows at a time, and the first of their cells whose voice answer is Steady.
 // For callers that have checked their inputs.
 ghost use mathlib.Core.Path.{_≡_};
 ghost use Rattle.picture.specs.Refusal.{answered};
@@ -20,8 +20,8 @@ pub enum SteadyAnswer {
     Found(Cell),
 }
 
-// "the first cell in row order whose voice answer is Steady"; counts, totals and squares are room for a row each, n, s and a for 16 rows.
-fn first(
+// "the first cell in row order whose voice answer is Steady", 16 rows after the other; counts, totals and squares are room for a row each, n, s and a for 16 rows.
+fn by_blocks(
     size: Size,
     f: &[i16],
     g: &[i16],
@@ -44,11 +44,16 @@ fn first(
         next(i, size, f, g, window, shift, 0, counts, n);
         next(i, size, f, g, window, shift, 1, totals, s);
         next(i, size, f, g, window, shift, 3, squares, a);
-        let column = hearing::column(i % 16 * columns, columns, n, s, a);
-        if column < columns {
-            return SteadyAnswer::Found(Cell { row: i, column });
+        let count = clip::high(i, 15, rows) - i;
+        let cell = hearing::first(count, columns, n, s, a);
+        let row = cell.row;
+        if row < count {
+            return SteadyAnswer::Found(Cell {
+                row: i + row,
+                column: cell.column,
+            });
         }
-        i += 1;
+        i += count;
     }
     SteadyAnswer::Nowhere
 }
@@ -66,7 +71,7 @@ pub fn whole(size: Size, f: &[i16], g: &[i16], window: Window, shift: Shift) -> 
     let mut n = [0i64; 16384];
     let mut s = [0i64; 16384];
     let mut a = [0i64; 16384];
-    first(
+    by_blocks(
         size,
         f,
         g,

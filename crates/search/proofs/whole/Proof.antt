@@ -22,41 +22,41 @@ mul-room c = record { fits = omega (arith, narrow c) }
 array-borrow-prefix-counts : tie.Need-array-borrow-prefix-counts
 array-borrow-prefix-counts c = narrow c
 
-slice-aggregate-first : tie.Need-slice-aggregate-first
-slice-aggregate-first c = sym (length-take-le _ _ (narrow (c .before)))
+slice-aggregate-by-blocks : tie.Need-slice-aggregate-by-blocks
+slice-aggregate-by-blocks c = sym (length-take-le _ _ (narrow (c .before)))
 
 array-borrow-prefix-totals : tie.Need-array-borrow-prefix-totals
 array-borrow-prefix-totals c = narrow (c .before)
 
-slice-aggregate-first-2 : tie.Need-slice-aggregate-first-2
-slice-aggregate-first-2 c = sym (length-take-le _ _ (narrow (c .before .before)))
+slice-aggregate-by-blocks-2 : tie.Need-slice-aggregate-by-blocks-2
+slice-aggregate-by-blocks-2 c = sym (length-take-le _ _ (narrow (c .before .before)))
 
 array-borrow-prefix-squares : tie.Need-array-borrow-prefix-squares
 array-borrow-prefix-squares c = narrow (c .before .before)
 
-slice-aggregate-first-3 : tie.Need-slice-aggregate-first-3
-slice-aggregate-first-3 c = sym (length-take-le _ _ (narrow (c .before .before .before)))
+slice-aggregate-by-blocks-3 : tie.Need-slice-aggregate-by-blocks-3
+slice-aggregate-by-blocks-3 c = sym (length-take-le _ _ (narrow (c .before .before .before)))
 
 array-borrow-prefix-n : tie.Need-array-borrow-prefix-n
 array-borrow-prefix-n c = room (c .before .before .before)
 
-slice-aggregate-first-4 : tie.Need-slice-aggregate-first-4
-slice-aggregate-first-4 c = sym (length-take-le _ _ (room (c .before .before .before .before)))
+slice-aggregate-by-blocks-4 : tie.Need-slice-aggregate-by-blocks-4
+slice-aggregate-by-blocks-4 c = sym (length-take-le _ _ (room (c .before .before .before .before)))
 
 array-borrow-prefix-s : tie.Need-array-borrow-prefix-s
 array-borrow-prefix-s c = room (c .before .before .before .before)
 
-slice-aggregate-first-5 : tie.Need-slice-aggregate-first-5
-slice-aggregate-first-5 c = sym (length-take-le _ _ (room (c .before .before .before .before .before)))
+slice-aggregate-by-blocks-5 : tie.Need-slice-aggregate-by-blocks-5
+slice-aggregate-by-blocks-5 c = sym (length-take-le _ _ (room (c .before .before .before .before .before)))
 
 array-borrow-prefix-a : tie.Need-array-borrow-prefix-a
 array-borrow-prefix-a c = room (c .before .before .before .before .before)
 
-slice-aggregate-first-6 : tie.Need-slice-aggregate-first-6
-slice-aggregate-first-6 c = sym (length-take-le _ _ (room (c .before .before .before .before .before .before)))
+slice-aggregate-by-blocks-6 : tie.Need-slice-aggregate-by-blocks-6
+slice-aggregate-by-blocks-6 c = sym (length-take-le _ _ (room (c .before .before .before .before .before .before)))
 
-first-requires : tie.Need-first-requires
-first-requires c κs =
+by-blocks-requires : tie.Need-by-blocks-requires
+by-blocks-requires c κs =
     let s = c .before .before .before .before .before .before in
     record {
       inputs = s .pre;
@@ -77,16 +77,16 @@ whole-spec =
     (tie.spec
     mul-room
     array-borrow-prefix-counts
-    slice-aggregate-first
+    slice-aggregate-by-blocks
     array-borrow-prefix-totals
-    slice-aggregate-first-2
+    slice-aggregate-by-blocks-2
     array-borrow-prefix-squares
-    slice-aggregate-first-3
+    slice-aggregate-by-blocks-3
     array-borrow-prefix-n
-    slice-aggregate-first-4
+    slice-aggregate-by-blocks-4
     array-borrow-prefix-s
-    slice-aggregate-first-5
+    slice-aggregate-by-blocks-5
     array-borrow-prefix-a
-    slice-aggregate-first-6
-    first-requires
+    slice-aggregate-by-blocks-6
+    by-blocks-requires
     returns)
