@@ -14,7 +14,7 @@ fn total(work: &[i64], n: usize) -> i64
     let mut s = 0i64;
     let mut k = 0;
     while k < n {
-        s = machine::wrapping_add(s, work[k]);
+        s = wrapping::wrapping_add(s, work[k]);
         k += 1;
     }
     s
@@ -28,7 +28,7 @@ fn entering(work: &[i64], b: usize, end: usize, sum: i64, out: &mut [i64]) -> i6
     let mut s = sum;
     let mut j = 0;
     while j < end {
-        s = machine::wrapping_add(s, work[j + b]);
+        s = wrapping::wrapping_add(s, work[j + b]);
         out[j] = s;
         j += 1;
     }
@@ -44,7 +44,7 @@ fn sliding(work: &[i64], b: usize, first: usize, end: usize, sum: i64, out: &mut
     let mut s = sum;
     let mut j = first;
     while j < end {
-        s = machine::wrapping_add(s, machine::wrapping_sub(work[j + b], work[j - b - 1]));
+        s = wrapping::wrapping_add(s, wrapping::wrapping_sub(work[j + b], work[j - b - 1]));
         out[j] = s;
         j += 1;
     }
@@ -59,7 +59,7 @@ fn leaving(work: &[i64], b: usize, first: usize, sum: i64, out: &mut [i64])
     let mut s = sum;
     let mut j = first;
     while j < out.len() {
-        s = machine::wrapping_sub(s, work[j - b - 1]);
+        s = wrapping::wrapping_sub(s, work[j - b - 1]);
         out[j] = s;
         j += 1;
     }

@@ -1,11 +1,9 @@
 // Many rows: the work area moves on row by row, and each row's sums go to the output area.
 // For callers that have checked their inputs.
-ghost use mathlib.Core.Path.{_≡_};
-ghost use lib.Dec.{T};
-ghost use Rattle.picture.specs.Window.{windowLegal, shapeOf};
+ghost use Rattle.picture.specs.Window.{shapeOf};
 ghost use Rattle.picture.specs.Picture.{source, inputs, planeAt};
 ghost use Rattle.session.specs.Rows.{strip, Advanced};
-ghost use Rattle.advance.specs.Asked.{ManyAsked, SlantedAsked, Pays, FromTop};
+ghost use Rattle.advance.specs.Asked.{ManyAsked, SlantedAsked};
 use picture::Shift;
 use picture::Size;
 use picture::Window;
@@ -95,38 +93,6 @@ fn by_edges(
     edges::many(size, f, g, window, shift, plane, position - 1, n, work, out);
 }
 
-// Whether the slopes are the faster way. They have to be started once a call, which pays from the second row on.
-fn edges_pay(window: Window, n: usize) -> bool
-    requires { ⌜ T (windowLegal window) ⌝ }
-    ensures { λ r. ⌜ Pays window n r ⌝ }
-{
-    if shape::is_rectangle(window) {
-        return false;
-    }
-    n >= 2
-}
-
-// Whether row 0 comes by the slopes too: at position 0, of ones and levels.
-fn from_top(position: usize, window: Window, plane: u32, n: usize) -> bool
-    requires { ⌜ T (windowLegal window) ⌝ }
-    ensures { λ r. ⌜ FromTop position window plane n r ⌝ }
-{
-    let rectangle = shape::is_rectangle(window);
-    if rectangle {
-        return false;
-    }
-    if shape::height(window) == 0 {
-        return false;
-    }
-    if position > 0 {
-        return false;
-    }
-    if plane > 2 {
-        return false;
-    }
-    n >= 1
-}
-
 // n rows from a position on.
 pub fn many(
     position: usize,
@@ -143,11 +109,11 @@ pub fn many(
     requires { ⌜ ManyAsked (inputs size (now f) (now g) window shift plane) position n (now work) (now out) ⌝ }
     ensures { λ _. ⌜ Advanced (strip size (planeAt (source size (now (f .entry)) (now (g .entry)) shift plane)) (shapeOf window) position n (now (work .entry))) (now (work .exit)) (now (out .exit)) ⌝ }
 {
-    if from_top(position, window, plane, n) {
+    if crossings::from_top(position, window, plane, n) {
         edges::narrow::fresh(size, f, g, window, shift, plane, n, work, out);
         return;
     }
-    if edges_pay(window, n) {
+    if crossings::edges_pay(window, n) {
         by_edges(position, size, f, g, window, shift, plane, n, work, out);
         return;
     }

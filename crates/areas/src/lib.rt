@@ -7,10 +7,10 @@ ghost use Rattle.picture.specs.Picture.{source, inputs, planeAt};
 ghost use Rattle.session.specs.Rows.{workAfter, outputRow};
 ghost use Rattle.areas.specs.Asked.{OutputAsked};
 ghost use Rattle.steps.specs.Asked.{StepAsked};
+use first_rows::rectangle;
 use picture::Shift;
 use picture::Size;
 use picture::Window;
-use steps::rectangle;
 use steps::step;
 
 // The work area moves on to the row at a position: at position 0 it is not read. The room for a row serves on the way.

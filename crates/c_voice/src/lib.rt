@@ -9,7 +9,7 @@ use statistics::Sums;
 use statistics::Voice;
 use statistics::VoiceAnswer;
 
-// `moments::voice_answer`: the kind of f's voice, 1 Steady or 2 Grainy, with its level and spread; the spread of a steady voice is 0.
+// `voices::voice_answer`: the kind of f's voice, 1 Steady or 2 Grainy, with its level and spread; the spread of a steady voice is 0.
 #[no_mangle]
 pub extern "C" fn ls_voice(
     n: i64,
@@ -28,7 +28,7 @@ pub extern "C" fn ls_voice(
     ensures spread { λ _. ⌜ now (spread .exit) ≡ resultOr (voiceResult (now (kind .entry)) (now (level .entry)) (now (spread .entry))) (reply ofVoice (voiceCall (sums n s t a b p))) .spread ⌝ }
 {
     let sums = Sums { n, s, t, a, b, p };
-    match moments::voice_answer(sums) {
+    match voices::voice_answer(sums) {
         VoiceAnswer::Refused(number) => number as i32,
         VoiceAnswer::Heard(voice) => match voice {
             Voice::Empty => EMPTY,

@@ -54,9 +54,9 @@ fn four_corners(
     let top_right = corner(size, table, top, right);
     let bottom_left = corner(size, table, bottom, left);
     let top_left = corner(size, table, top, left);
-    let up_to_right = machine::wrapping_sub(bottom_right, top_right);
-    let without_left = machine::wrapping_sub(up_to_right, bottom_left);
-    machine::wrapping_add(without_left, top_left)
+    let up_to_right = wrapping::wrapping_sub(bottom_right, top_right);
+    let without_left = wrapping::wrapping_sub(up_to_right, bottom_left);
+    wrapping::wrapping_add(without_left, top_left)
 }
 
 // The rectangle of half sizes a and b on the cell (i, j).
@@ -83,9 +83,9 @@ fn row_by_row(size: Size, table: &[i64], window: Window, cell: Cell) -> i64
     let mut sum = 0i64;
     while m < end {
         let distance = clip::distance(row, m);
-        let reach = shape::reach(window, distance);
+        let reach = reaches::reach(window, distance);
         let part = rectangle(size, table, 0, reach, m, column);
-        sum = machine::wrapping_add(sum, part);
+        sum = wrapping::wrapping_add(sum, part);
         m += 1;
     }
     sum

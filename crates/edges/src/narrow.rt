@@ -88,7 +88,7 @@ fn top_row(
     let zero = 0;
     let columns = size.columns;
     let corner = Cell { row: 0, column: 0 };
-    let sum = direct::sum(size, f, g, window, shift, plane, corner);
+    let sum = window_sums::sum(size, f, g, window, shift, plane, corner);
     first(sum, rises, falls, work, &mut out[zero..columns]);
     columns
 }

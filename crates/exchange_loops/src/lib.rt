@@ -13,7 +13,7 @@ pub fn add_number(by: i64, sums: &mut [i64])
 {
     let mut k = 0;
     while k < sums.len() {
-        sums[k] = machine::wrapping_add(sums[k], by);
+        sums[k] = wrapping::wrapping_add(sums[k], by);
         k += 1;
     }
 }
@@ -25,7 +25,7 @@ pub fn exchange_levels(enter: &[i16], leave: &[i16], sums: &mut [i64])
 {
     let mut k = 0;
     while k < sums.len() {
-        sums[k] = machine::wrapping_add(sums[k], machine::difference(enter[k], leave[k]));
+        sums[k] = wrapping::wrapping_add(sums[k], machine::difference(enter[k], leave[k]));
         k += 1;
     }
 }
@@ -39,7 +39,7 @@ pub fn exchange_products(a: &[i16], b: &[i16], c: &[i16], d: &[i16], sums: &mut 
     while k < sums.len() {
         let enter = machine::product(a[k], b[k]);
         let leave = machine::product(c[k], d[k]);
-        sums[k] = machine::wrapping_add(sums[k], machine::wrapping_sub(enter, leave));
+        sums[k] = wrapping::wrapping_add(sums[k], wrapping::wrapping_sub(enter, leave));
         k += 1;
     }
 }

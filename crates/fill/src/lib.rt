@@ -6,10 +6,10 @@ ghost use Rattle.picture.specs.Picture.{source, planeAt};
 ghost use Rattle.cumulative.specs.Table.{tableOf};
 ghost use Rattle.fill.specs.Fill.{Buildable, RowAsked};
 ghost use Rattle.row_sums.specs.RowSums.{NextRow};
+use level_sums::next_levels;
 use picture::Shift;
 use picture::Size;
 use row_sums::first_row;
-use row_sums::next_levels;
 use row_sums::next_row;
 
 // Row i of the table, at `start`: the plane's row is written there, and summed.

@@ -1,4 +1,4 @@
-// A diamond's or hexagon's window sums on row 0, one row of the window after the other.
+// The work area on row 0: a diamond's or hexagon's window sums, one row of the window after the other, and a rectangle's column sums.
 // For callers that have checked their inputs.
 ghost use mathlib.Core.Path.{_≡_};
 ghost use lib.Dec.{leb};
@@ -17,6 +17,8 @@ use picture::Size;
 use picture::Window;
 use steps::step;
 
+pub mod rectangle; // rectangle.rt: a rectangle's column sums of row 0
+
 // Row m of the plane comes into the work area, each cell as far to both sides as the window on row 0 reaches there. Two rooms for a row serve on the way.
 fn reaching(
     size: Size,
@@ -33,7 +35,7 @@ fn reaching(
     requires { ⌜ ReachAsked (inputs size (now f) (now g) window shift plane) m (now work) (now row) (now cells) ⌝ }
     ensures { λ _. ⌜ now (work .exit) ≡ tabulate (size .columns) (λ j. wrap (getD (now (work .entry)) j (pos 0) +ℤ sumTo (size .columns) (λ n. pick (leb (columnGap size j n) (reach (shapeOf window) m)) (planeAt (source size (now (f .entry)) (now (g .entry)) shift plane) m n)))) ⌝ }
 {
-    let k = shape::reach(window, m);
+    let k = reaches::reach(window, m);
     planes::part(size, f, g, shift, plane, m, 0, cells);
     across::across(cells, k, row);
     step::add(work, row);

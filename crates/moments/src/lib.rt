@@ -1,18 +1,13 @@
-// Mean, variance, deviation and voice answer of f.
+// Mean, variance and deviation of six sums.
 ghost use mathlib.Core.Path.{_≡_};
 ghost use Rattle.numbers.specs.Round.{nearest};
 ghost use Rattle.statistics.specs.Moments.{meanCall, varianceCall, deviationCall};
-ghost use Rattle.statistics.specs.Voice.{voiceCall};
-ghost use Rattle.statistics.specs.Answers.{wholeOutcome, voiceOutcome};
+ghost use Rattle.statistics.specs.Answers.{wholeOutcome};
 use central::central_moments;
 use rounding::nearest;
-use rounding::over_32768;
 use rounding::whole_root;
 use statistics::CentralAnswer;
-use statistics::Grain;
 use statistics::Sums;
-use statistics::Voice;
-use statistics::VoiceAnswer;
 use statistics::WholeAnswer;
 
 // "Mean of f: the whole number nearest S/N, a half going up"
@@ -45,23 +40,5 @@ pub fn deviation(z: Sums) -> WholeAnswer
         CentralAnswer::Refused(number) => WholeAnswer::Refused(number),
         CentralAnswer::Empty => WholeAnswer::Empty,
         CentralAnswer::Given(m) => WholeAnswer::Whole(whole_root(m.vf, m.count * m.count) as i64),
-    }
-}
-
-// "Empty if N = 0; Steady with a level if Vf = 0; otherwise Grainy with a level and a spread."
-pub fn voice_answer(z: Sums) -> VoiceAnswer
-    ensures { λ r. ⌜ voiceOutcome r ≡ voiceCall z ⌝ }
-{
-    match central_moments(z) {
-        CentralAnswer::Refused(number) => VoiceAnswer::Refused(number),
-        CentralAnswer::Empty => VoiceAnswer::Heard(Voice::Empty),
-        CentralAnswer::Given(m) => {
-            let level = over_32768(nearest(z.s, m.count));
-            if m.vf == 0 {
-                return VoiceAnswer::Heard(Voice::Steady(level));
-            }
-            let spread = over_32768(whole_root(m.vf, m.count * m.count) as i64);
-            VoiceAnswer::Heard(Voice::Grainy(Grain { level, spread }))
-        }
     }
 }

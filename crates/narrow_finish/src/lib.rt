@@ -30,7 +30,7 @@ pub fn finish(
 {
     let mut j = 0;
     while j < work.len() {
-        let sum = machine::wrapping_add(work[j], whole(rising[j + p], falling[j + q]));
+        let sum = wrapping::wrapping_add(work[j], whole(rising[j + p], falling[j + q]));
         work[j] = sum;
         out[j] = sum;
         j += 1;
@@ -62,7 +62,7 @@ pub fn finish_tips(
     let mut j = 0;
     while j < work.len() {
         let change = tipped(a[j + 256], c[j + 256], rising[j + p], falling[j + q]);
-        let sum = machine::wrapping_add(work[j], change);
+        let sum = wrapping::wrapping_add(work[j], change);
         work[j] = sum;
         out[j] = sum;
         j += 1;

@@ -15,3 +15,4 @@ pub mod Widths
 pub mod Running
 pub mod Lines
 pub mod Divisions
+pub mod Signs

@@ -32,9 +32,15 @@ fn corner(c: Case, table: &[i64], rows: usize, columns: usize) -> i64 {
 
 // The rectangle from row `top` up to row `bottom` and from column `left` up to column `right`.
 fn rectangle(c: Case, table: &[i64], top: usize, bottom: usize, left: usize, right: usize) -> i64 {
-    let inner = machine::wrapping_add(corner(c, table, bottom, right), corner(c, table, top, left));
-    let outer = machine::wrapping_add(corner(c, table, top, right), corner(c, table, bottom, left));
-    machine::wrapping_sub(inner, outer)
+    let inner = wrapping::wrapping_add(
+        corner(c, table, bottom, right),
+        corner(c, table, top, left),
+    );
+    let outer = wrapping::wrapping_add(
+        corner(c, table, top, right),
+        corner(c, table, bottom, left),
+    );
+    wrapping::wrapping_sub(inner, outer)
 }
 
 // The one-row rectangle of row m in a diamond or hexagon on (i, j).
@@ -53,7 +59,7 @@ fn row_by_row(c: Case, table: &[i64], i: usize, j: usize) -> i64 {
     let mut s = 0i64;
     let mut m = 0usize;
     while m < rows {
-        s = machine::wrapping_add(s, row(c, table, i, j, m));
+        s = wrapping::wrapping_add(s, row(c, table, i, j, m));
         m += 1;
     }
     s

@@ -100,7 +100,7 @@ fn row_sum(c: Case, f: &[i16], g: &[i16], i: usize, j: usize, m: usize) -> i64 {
     let mut s = 0i64;
     let mut n = 0usize;
     while n < columns {
-        s = machine::wrapping_add(s, taken(c, f, g, i, j, m, n));
+        s = wrapping::wrapping_add(s, taken(c, f, g, i, j, m, n));
         n += 1;
     }
     s
@@ -112,7 +112,7 @@ pub fn sum(c: Case, f: &[i16], g: &[i16], i: usize, j: usize) -> i64 {
     let mut s = 0i64;
     let mut m = 0usize;
     while m < rows {
-        s = machine::wrapping_add(s, row_sum(c, f, g, i, j, m));
+        s = wrapping::wrapping_add(s, row_sum(c, f, g, i, j, m));
         m += 1;
     }
     s

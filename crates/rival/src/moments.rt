@@ -25,7 +25,7 @@ pub fn signed_product(a: i64, b: i64) -> i64 {
     if apart == other {
         return whole;
     }
-    machine::wrapping_sub(0, whole)
+    wrapping::wrapping_sub(0, whole)
 }
 
 // x / d to the nearest whole number, "a half going up"; of numbers below 2^62.
@@ -39,17 +39,17 @@ fn nearest(x: u64, d: u64) -> u64 {
 
 // The mean of n levels with the sum s, raised by 32,768: the mean of the levels so raised, of which none is negative.
 pub fn raised_mean(n: i64, s: i64) -> u64 {
-    let raised = machine::wrapping_add(s, signed_product(n, 32768));
+    let raised = wrapping::wrapping_add(s, signed_product(n, 32768));
     nearest(machine::magnitude(raised), machine::magnitude(n))
 }
 
 pub fn mean(n: i64, s: i64) -> i64 {
-    machine::wrapping_sub((raised_mean(n, s) % 4294967296) as i64, 32768)
+    wrapping::wrapping_sub((raised_mean(n, s) % 4294967296) as i64, 32768)
 }
 
 // n·x - s·t: Vf, Vg or C.
 pub fn central(n: i64, x: i64, s: i64, t: i64) -> i64 {
-    machine::wrapping_sub(signed_product(n, x), signed_product(s, t))
+    wrapping::wrapping_sub(signed_product(n, x), signed_product(s, t))
 }
 
 pub fn squared(n: u64) -> u64 {
@@ -89,7 +89,7 @@ pub fn coefficient(vf: u64, vg: u64, c: i64) -> i64 {
     let most = product(1000000, squared(machine::magnitude(c)));
     let size = (root(512, product(vf, vg), most) % 4294967296) as i64;
     if c < 0 {
-        return machine::wrapping_sub(0, size);
+        return wrapping::wrapping_sub(0, size);
     }
     size
 }

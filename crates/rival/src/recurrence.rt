@@ -5,11 +5,11 @@ use trial_tools::areas;
 // A number that a cell d rows below row i+1 enters and one d rows above row i leaves: "A cell outside the picture gives 0."
 fn stepped(c: Case, f: &[i16], g: &[i16], i: usize, d: usize, n: usize, number: i64) -> i64 {
     let below = std::num::wrapping_add_usize(std::num::wrapping_add_usize(i, 1), d);
-    let entered = machine::wrapping_add(number, crate::value(c, f, g, below, n));
+    let entered = wrapping::wrapping_add(number, crate::value(c, f, g, below, n));
     if i < d {
         return entered;
     }
-    machine::wrapping_sub(entered, crate::value(c, f, g, i - d, n))
+    wrapping::wrapping_sub(entered, crate::value(c, f, g, i - d, n))
 }
 
 // "d(q) the smaller of h and k+h-|q|", for |q| up to k+h
@@ -101,7 +101,7 @@ fn across(c: Case, f: &[i16], g: &[i16], b: Begun, given: &[i64], i: usize, j: u
     let mut s = 0i64;
     let mut n = 0usize;
     while n < columns {
-        s = machine::wrapping_add(s, near(c, f, g, b, given, i, j, n));
+        s = wrapping::wrapping_add(s, near(c, f, g, b, given, i, j, n));
         n += 1;
     }
     s

@@ -1,8 +1,7 @@
 // The table's rows, each from the plane's row and the row above: loops over one row.
 // For callers that have checked their inputs.
 ghost use Prim.Native.Nat.{_≤_};
-ghost use lib.IntN.{pos};
-ghost use lib.ListN.{length, getD};
+ghost use lib.ListN.{length};
 ghost use Rattle.row_sums.specs.RowSums.{RowRoom, rowFrom, NextRow, FirstRow};
 
 // The table's first row, from the plane's in its place: the running sums.
@@ -13,7 +12,7 @@ pub fn first_row(columns: usize, table: &mut [i64])
     let mut sum = 0i64;
     let mut j = 0;
     while j < columns {
-        sum = machine::wrapping_add(sum, table[j]);
+        sum = wrapping::wrapping_add(sum, table[j]);
         table[j] = sum;
         j += 1;
     }
@@ -29,25 +28,9 @@ pub fn next_row(columns: usize, start: usize, table: &mut [i64])
     let mut j = 0;
     while j < columns {
         let at = start + j;
-        sum = machine::wrapping_add(sum, table[at]);
-        let number = machine::wrapping_add(table[above + j], sum);
+        sum = wrapping::wrapping_add(sum, table[at]);
+        let number = wrapping::wrapping_add(table[above + j], sum);
         table[at] = number;
-        j += 1;
-    }
-}
-
-// The same from a row of levels.
-pub fn next_levels(levels: &[i16], start: usize, table: &mut [i64])
-    requires { ⌜ RowRoom (length (now levels)) start (now table) ⌝ }
-    ensures { λ _. ⌜ NextRow (length (now (levels .entry))) start (λ q. getD (now (levels .entry)) q (pos 0)) (now (table .entry)) (now (table .exit)) ⌝ }
-{
-    let columns = levels.len();
-    let above = start - columns;
-    let mut sum = 0i64;
-    let mut j = 0;
-    while j < columns {
-        sum = machine::wrapping_add(sum, levels[j] as i64);
-        table[start + j] = machine::wrapping_add(table[above + j], sum);
         j += 1;
     }
 }

@@ -31,7 +31,7 @@ fn products_total(a: &[i16], b: &[i16]) -> i64
     let mut s = 0i64;
     let mut k = 0;
     while k < a.len() {
-        s = machine::wrapping_add(s, machine::product(a[k], b[k]));
+        s = wrapping::wrapping_add(s, machine::product(a[k], b[k]));
         k += 1;
     }
     s

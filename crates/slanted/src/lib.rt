@@ -36,7 +36,7 @@ fn edge(
     let columns = size.columns;
     let zero = 0;
     let n = columns - c;
-    step::gain(size, f, g, shift, plane, i, shape::depth(window, c), row);
+    step::gain(size, f, g, shift, plane, i, reaches::depth(window, c), row);
     step::add(&mut work[c..columns], &row[zero..n]);
     step::add(&mut work[zero..n], &row[c..columns]);
 }
@@ -58,7 +58,7 @@ pub fn next(
 {
     let columns = size.columns;
     let end = clip::high(0, shape::width(window), columns);
-    step::add_gain(size, f, g, shift, plane, i, shape::depth(window, 0), work);
+    step::add_gain(size, f, g, shift, plane, i, reaches::depth(window, 0), work);
     let mut c = 1;
     while c < end {
         edge(size, f, g, window, shift, plane, i, c, work, row);

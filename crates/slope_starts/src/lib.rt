@@ -65,7 +65,7 @@ pub fn first(
     while j < work.len() {
         work[j] = sum;
         out[j] = sum;
-        sum = machine::wrapping_add(sum, apart(rises[j + 128], falls[j + 385]));
+        sum = wrapping::wrapping_add(sum, apart(rises[j + 128], falls[j + 385]));
         j += 1;
     }
 }

@@ -10,7 +10,7 @@ fn refused(z: Sums, number: u64, t: Tally) -> Tally {
     t.with_natural(answers::whole(moments::mean(z)).refusal, number)
         .with_natural(answers::whole(moments::variance(z)).refusal, number)
         .with_natural(answers::whole(moments::deviation(z)).refusal, number)
-        .with_natural(answers::voice(moments::voice_answer(z)).refusal, number)
+        .with_natural(answers::voice(voices::voice_answer(z)).refusal, number)
         .with_natural(
             answers::coefficient(correlation::coefficient(z)).refusal,
             number,

@@ -61,7 +61,7 @@ fn one_if(holds: bool) -> u64 {
 
 // "Empty if N = 0; Steady with a level if Vf = 0; otherwise Grainy with a level and a spread."
 fn voice(z: Sums, t: Tally) -> Tally {
-    let heard = answers::voice(moments::voice_answer(z));
+    let heard = answers::voice(voices::voice_answer(z));
     if z.n == 0 {
         return t.with_natural(heard.kind, 1);
     }

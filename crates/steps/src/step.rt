@@ -60,7 +60,7 @@ pub fn add(work: &mut [i64], row: &[i64])
 {
     let mut j = 0;
     while j < work.len() {
-        work[j] = machine::wrapping_add(work[j], row[j]);
+        work[j] = wrapping::wrapping_add(work[j], row[j]);
         j += 1;
     }
 }

@@ -77,7 +77,7 @@ pub fn finish(
 {
     let mut j = 0;
     while j < work.len() {
-        let sum = machine::wrapping_add(work[j], rising[j + p] + falling[j + q]);
+        let sum = wrapping::wrapping_add(work[j], rising[j + p] + falling[j + q]);
         work[j] = sum;
         out[j] = sum;
         j += 1;

@@ -6,7 +6,7 @@ use native.Mathlib.Omega.{arith}
 use lib.IntN.{ℤ, negsuc, natAbs, _-ℤ_}
 use mir.Syntax.{w64}
 use mir.Facts.{toZ-ofZ}
-use Rattle.machine.proofs.Signs.{NotNegative, Negative, not-negative, negative}
+use Rattle.numbers.proofs.Signs.{NotNegative, Negative, not-negative, negative}
 use Rattle.machine.proofs.magnitude.Statement.{statement}
 use Rattle.machine.proofs.magnitude.Tie as tie
 

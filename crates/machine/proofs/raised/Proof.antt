@@ -6,7 +6,7 @@ use lib.IntN.{ℤ, pos, negsuc, natAbs, _+ℤ_, _-ℤ_}
 use mir.Syntax.{w16}
 use mir.Facts.{toZ-ofZ}
 use Rattle.numbers.proofs.Wraps.{sub-high}
-use Rattle.machine.proofs.Signs.{NotNegative, Negative, not-negative, negative}
+use Rattle.numbers.proofs.Signs.{NotNegative, Negative, not-negative, negative}
 use Rattle.machine.proofs.raised.Statement.{statement}
 use Rattle.machine.proofs.raised.Tie as tie
 
