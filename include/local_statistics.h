@@ -35,7 +35,7 @@
  * chose, memcpy, memmove and memset. Every call returns.
  *
  * STACK. The work areas of a call stand on the caller's stack. Measured on x86-64: ls_steady takes up
- * to 500 KiB of it, ls_smooth and ls_panel up to 380 KiB, ls_rows up to 80 KiB, the others up to
+ * to 520 KiB of it, ls_smooth and ls_panel up to 380 KiB, ls_rows up to 100 KiB, the others up to
  * 24 KiB. Nothing is proved of it.
  *
  * THREADS. Any number of threads may call any functions at once, each with its own results and its
