@@ -6,7 +6,6 @@ use native.Mathlib.Numerals.{add-one}
 use native.Mathlib.Omega.{arith}
 use mathlib.Core.Bool.{Bool, true, false}
 use mathlib.Core.Option.{Option, none, some}
-use Rattle.picture.specs.declared.Cell.{Cell}
 use Rattle.picture.specs.Size.{cell}
 use Rattle.smoothed.specs.Steady.{findColumn, orElse, findCell}
 

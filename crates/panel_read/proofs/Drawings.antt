@@ -1,23 +1,20 @@
 -- From numbers to a drawing, one number after the other: what is missing or malformed, the size, the window, the levels.
 -- Assumes nothing.
 use mathlib.Core.Path.{_≡_, refl, sym, _∙_, ap, subst}
-use Prim.Native.Nat.{ℕ, suc, _+_, _-_, _^_, _≤_, _<_}
+use Prim.Native.Nat.{ℕ, _+_, _-_, _^_, _≤_, _<_}
 use native.Mathlib.Nat.{mul-le-mul}
-use native.Mathlib.Numerals.{add-one}
 use native.Mathlib.Omega.{arith}
 use mathlib.Core.Bool.{Bool, true, false, not}
-use mathlib.Core.List.{List, [], _∷_, _++_, append-nil}
-use mathlib.Core.Logic.{_⊎_, inl, inr}
+use mathlib.Core.List.{List, [], _∷_, _++_}
 use mathlib.Core.Option.{Option, none, some}
 use lib.Dec.{T, leb, leb→le}
-use lib.ListN.{length, take, set, length-set}
-use lib.Seq.{take-suc-set, take-all, take-at, length-take-le, append-snoc}
+use lib.ListN.{length, take}
+use lib.Seq.{take-at, length-take-le}
 use lib.IntN.{ℤ, pos, negsuc, natAbs}
 use lib.Signed.{ltZ, nonNeg}
 use borrow.Author.Tests.{ltb-true, le-ltb, not-true, not-false}
 use mir.Syntax.{w32}
 use mir.Val.{SFits}
-use denote.Enum.Declared.{tagOf}
 use Rattle.picture.specs.Refusal.{refused, answered}
 use Rattle.picture.specs.declared.Size.{Size}
 use Rattle.picture.specs.declared.Window.{Window}
@@ -26,8 +23,7 @@ use Rattle.picture.specs.Window.{window, windowLegal}
 use Rattle.picture.proofs.Refusals.{in-limits}
 use Rattle.numbers.proofs.Tests.{and-right, first-fails, first-holds}
 use Rattle.panel_scan.specs.declared.Token.{Token}
-use Rattle.panel_scan.specs.declared.Token.the-variants.{End, Malformed, Number}
-use Rattle.panel_scan.proofs.Token.{the-type}
+use Rattle.panel_scan.specs.declared.Token.the-variants.{Number}
 use Rattle.panel_levels.specs.Levels.{levelsTold}
 use Rattle.panel_levels.proofs.Levels.{noNumber, NoNumber, no-number}
 use Rattle.panel_read.specs.declared.SizeRead.{SizeRead}
@@ -35,7 +31,7 @@ use Rattle.panel_read.specs.declared.WindowRead.{WindowRead}
 use Rattle.panel_read.specs.declared.SizeRead.the-variants.{Refused as SizeRefused, Taken as SizeTaken}
 use Rattle.panel_read.specs.declared.WindowRead.the-variants.{Malformed as NoWindow, Taken as WindowTaken}
 use Rattle.panel_scan.specs.Scan.{numbersFrom, told}
-use Rattle.panel_language.specs.Panel.{countOf, panelSize, isLevel, levelsOf, framed, filled, sized, parsed}
+use Rattle.panel_language.specs.Panel.{countOf, panelSize, levelsOf, framed, filled, sized, parsed}
 use Rattle.panel_read.specs.Read.{sizeTold, SizeLegal, SizeIs, windowTold, WindowIs, Roomy}
 
 -- ---- the size

@@ -7,7 +7,7 @@ use lib.IntN.{ℤ}
 use lib.ListN.{length}
 use Rattle.numbers.specs.Grid.{tabulate}
 use Rattle.numbers.specs.Wrap.{wrap}
-use Rattle.numbers.proofs.Writes.{at, tabulate-at}
+use Rattle.numbers.proofs.Writes.{tabulate-at}
 use Rattle.picture.specs.Window.{shapeOf, reach}
 use Rattle.picture.specs.Picture.{source, planeAt}
 use Rattle.across.specs.Across.{neighbourSum}

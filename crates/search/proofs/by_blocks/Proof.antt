@@ -2,8 +2,7 @@
 -- Assumes nothing.
 use mathlib.Core.Path.{_≡_, refl, sym, ap, _∙_}
 use mathlib.Core.List.{List}
-use mathlib.Core.Option.{none, some}
-use Prim.Native.Nat.{ℕ, _+_, _-_, _*_, _%_, _≤_, _<_}
+use Prim.Native.Nat.{ℕ, _-_, _*_, _%_, _≤_, _<_}
 use native.Mathlib.Nat.{mul-le-mul-right}
 use native.Mathlib.Omega.{arith}
 use lib.ListN.{length}
@@ -14,7 +13,7 @@ use Rattle.picture.proofs.Refusals.{in-limits}
 use Rattle.statistics.specs.SixSums.{onPlane}
 use Rattle.smoothed.specs.Steady.{findCell, firstSteady}
 use Rattle.blocks.specs.Blocks.{ready, rowsIn, Block}
-use Rattle.blocks.proofs.RowSums.{on-plane, block-of, held-first, next-start}
+use Rattle.blocks.proofs.RowSums.{on-plane, block-of, held-first}
 use Rattle.hearing.proofs.Searching.{no-row}
 use Rattle.search.proofs.Searching.{steadyAt, whole-search}
 use Rattle.search.proofs.BlockRows.{few, within, count, start-behind, ready-counts, ready-totals, ready-squares, possible, in-block, behind-block}
