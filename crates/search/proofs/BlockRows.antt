@@ -36,16 +36,10 @@ module _ (x : Inputs) (c : Checked x) (i m : ℕ) (below : i < x .source .size .
   pub start-behind : i % 16 ≡ 0 → i + m < x .source .size .rows → (i + m) % 16 ≡ 0
   start-behind e h = ap (λ (k : ℕ). (i + k) % 16) m-is ∙ next-start x i e (omega (arith, h, m-is))
 
+  pub ready-behind : (k : ℕ) (work block : List ℤ) → Block (onPlane x k) i work block → ready (onPlane x k) (i + m) work
+  ready-behind k work block b = subst (λ (r : ℕ). ready (onPlane x k) (i + r) work) (sym m-is) (b .left)
+
   module _ (counts totals squares n s a : List ℤ) (counted : Block (onPlane x 0) i counts n) (summed : Block (onPlane x 1) i totals s) (squared : Block (onPlane x 3) i squares a) where
-    pub ready-counts : ready (onPlane x 0) (i + m) counts
-    ready-counts = subst (λ (k : ℕ). ready (onPlane x 0) (i + k) counts) (sym m-is) (counted .left)
-
-    pub ready-totals : ready (onPlane x 1) (i + m) totals
-    ready-totals = subst (λ (k : ℕ). ready (onPlane x 1) (i + k) totals) (sym m-is) (summed .left)
-
-    pub ready-squares : ready (onPlane x 3) (i + m) squares
-    ready-squares = subst (λ (k : ℕ). ready (onPlane x 3) (i + k) squares) (sym m-is) (squared .left)
-
     pub possible : (r j : ℕ) → r < m → j < x .source .size .columns → impossible (sumsAt n s a (r * x .source .size .columns + j)) ≡ false
     possible =
         rows-possible x c i m n s a (λ r j h. counted .sums r j (omega (arith, h, m-is))) (λ r j h. summed .sums r j (omega (arith, h, m-is)))

@@ -16,7 +16,7 @@ use Rattle.blocks.specs.Blocks.{ready, rowsIn, Block}
 use Rattle.blocks.proofs.RowSums.{on-plane, block-of, held-first}
 use Rattle.hearing.proofs.Searching.{no-row}
 use Rattle.search.proofs.Searching.{steadyAt, whole-search}
-use Rattle.search.proofs.BlockRows.{few, within, count, start-behind, ready-counts, ready-totals, ready-squares, possible, in-block, behind-block}
+use Rattle.search.proofs.BlockRows.{few, within, count, start-behind, ready-behind, possible, in-block, behind-block}
 use Rattle.search.proofs.by_blocks.Statement.{statement}
 use Rattle.search.proofs.by_blocks.Tie as tie
 
@@ -222,9 +222,9 @@ loop-again c =
     record {
       same = sym (behind-block (given s) (s .pre .inputs) (l .i) m (t .loop-test .taken) (count-is h) _ _ _ _ _ _ (counted r) (summed r) (squared r) (f .first .result) (f .first .ensures) (c .if1 .left)) ∙ l .inv .same;
       start = start-behind (given s) (s .pre .inputs) (l .i) m (t .loop-test .taken) (count-is h) (start r);
-      ready-counts = ready-counts (given s) (s .pre .inputs) (l .i) m (t .loop-test .taken) (count-is h) _ _ _ _ _ _ (counted r) (summed r) (squared r);
-      ready-totals = ready-totals (given s) (s .pre .inputs) (l .i) m (t .loop-test .taken) (count-is h) _ _ _ _ _ _ (counted r) (summed r) (squared r);
-      ready-squares = ready-squares (given s) (s .pre .inputs) (l .i) m (t .loop-test .taken) (count-is h) _ _ _ _ _ _ (counted r) (summed r) (squared r);
+      ready-counts = ready-behind (given s) (s .pre .inputs) (l .i) m (t .loop-test .taken) (count-is h) 0 _ _ (counted r);
+      ready-totals = ready-behind (given s) (s .pre .inputs) (l .i) m (t .loop-test .taken) (count-is h) 1 _ _ (summed r);
+      ready-squares = ready-behind (given s) (s .pre .inputs) (l .i) m (t .loop-test .taken) (count-is h) 3 _ _ (squared r);
       room-counts = r .before .before .before .before .before .before .before .before .before .before .before .before .next .kept .1 .1 .1 .1 .1 .1 .1 .0 ∙ l .inv .room-counts;
       room-totals = r .before .before .before .before .before .before .before .next2 .kept .1 .1 .1 .1 .1 .1 .1 .0 ∙ l .inv .room-totals;
       room-squares = r .before .before .next3 .kept .1 .1 .1 .1 .1 .1 .1 .0 ∙ l .inv .room-squares;
