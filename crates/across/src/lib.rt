@@ -1,5 +1,7 @@
 // The sliding sum across a row: a loop for each kind of column, so that none asks where the row ends.
 // For callers that have checked their inputs.
+#![tactic(auto)]
+
 ghost use Rattle.std.specs.Prelude.{◌≡◌, ◌+◌, ◌-◌, ◌≤◌, length};
 ghost use Rattle.numbers.specs.Grid.{tabulate};
 ghost use Rattle.across.specs.Across.{neighbour_sum, range_sum, Written, EnteringAsked, SlidingAsked, LeavingAsked};

@@ -1,5 +1,7 @@
 // Many rows: the work area moves on row by row, and each row's sums go to the output area.
 // For callers that have checked their inputs.
+#![tactic(auto)]
+
 ghost use Rattle.picture.specs.Window.{shape_of};
 ghost use Rattle.picture.specs.Picture.{source, inputs, plane_at};
 ghost use Rattle.session.specs.Rows.{strip, Advanced};

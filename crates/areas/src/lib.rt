@@ -1,5 +1,7 @@
 // The work area from row to row, and the output row that it gives.
 // For callers that have checked their inputs.
+#![tactic(auto)]
+
 ghost use Rattle.std.specs.Prelude.{◌≡◌, length};
 ghost use Rattle.picture.specs.Window.{shape_of};
 ghost use Rattle.picture.specs.Picture.{source, inputs, plane_at};

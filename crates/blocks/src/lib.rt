@@ -1,5 +1,7 @@
 // The window sums of a plane, row after row. They are made 16 rows at a time, since many rows cost less than as many single ones.
 // For callers that have checked their inputs.
+#![tactic(auto)]
+
 ghost use Rattle.picture.specs.Picture.{inputs};
 ghost use Rattle.blocks.specs.Blocks.{RowAsked, RowSums};
 

@@ -1,4 +1,6 @@
 // The bounds of refusal 9, for any six i64 with no overflow on the way.
+#![tactic(auto)]
+
 ghost use Rattle.std.specs.Prelude.{◌≡◌};
 ghost use Rattle.statistics.specs.SixSums.{unbounded};
 

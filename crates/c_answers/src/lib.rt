@@ -1,5 +1,7 @@
 // How an answer of the row session or of the search goes to C: a status, and results behind pointers. The functions of the C interface over
 // them are in `c_rows` and `c_steady`.
+#![tactic(auto)]
+
 ghost use Rattle.std.specs.Prelude.{◌≡◌};
 ghost use Rattle.picture.specs.Size.{cell};
 ghost use Rattle.rows.specs.Answers.{rows_outcome};

@@ -1,4 +1,6 @@
 // The C interface to the coefficient of six sums N, S, T, A, B, P. `replies` says what a call asks and hands back.
+#![tactic(auto)]
+
 ghost use Rattle.std.specs.Prelude.{◌≡◌};
 ghost use Rattle.statistics.specs.Coefficient.{coefficient_call};
 ghost use Rattle.replies.specs.Reply.{status, result_or, reply, sums, of_coefficient};

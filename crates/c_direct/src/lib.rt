@@ -1,4 +1,6 @@
 // The C interface to the direct sum. `replies` says what a call asks and hands back.
+#![tactic(auto)]
+
 ghost use Rattle.std.specs.Prelude.{◌≡◌};
 ghost use Rattle.picture.specs.Size.{size};
 ghost use Rattle.picture.specs.Window.{window};

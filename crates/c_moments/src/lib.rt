@@ -1,4 +1,6 @@
 // The C interface to the mean, the variance and the deviation of six sums N, S, T, A, B, P. `replies` says what a call asks and hands back.
+#![tactic(auto)]
+
 ghost use Rattle.std.specs.Prelude.{◌≡◌};
 ghost use Rattle.statistics.specs.Moments.{mean_call, variance_call, deviation_call};
 ghost use Rattle.replies.specs.Reply.{status, result_or, reply, sums, of_whole};

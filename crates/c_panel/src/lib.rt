@@ -1,4 +1,6 @@
 // The C interface to what panel prints. `replies` says what a call asks and hands back.
+#![tactic(auto)]
+
 ghost use Rattle.std.specs.Prelude.{◌≡◌};
 ghost use Rattle.panel_text.specs.Rendered.{rendered};
 ghost use Rattle.replies.specs.Reply.{status, result_or};

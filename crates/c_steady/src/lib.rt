@@ -1,4 +1,6 @@
 // The C interface to the search for the first steady cell. `replies` says what a call asks and hands back.
+#![tactic(auto)]
+
 ghost use Rattle.std.specs.Prelude.{◌≡◌};
 ghost use Rattle.picture.specs.Size.{size, cell};
 ghost use Rattle.picture.specs.Window.{window};

@@ -1,4 +1,6 @@
 // Refusal 9: "sums impossible", decided for any six i64 with no overflow on the way, and Vf, Vg and C of the others.
+#![tactic(auto)]
+
 ghost use Rattle.std.specs.Prelude.{◌≡◌, ◌-ℤ◌, ◌*ℤ◌};
 ghost use Rattle.statistics.specs.SixSums.{unbounded};
 ghost use Rattle.statistics.specs.Central.{central_call};

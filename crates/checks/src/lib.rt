@@ -1,4 +1,6 @@
 // The first refusal of a call, from the conditions 1 to 6: 0 where there is none.
+#![tactic(auto)]
+
 ghost use Rattle.std.specs.Prelude.{◌≡◌};
 ghost use Rattle.picture.specs.Refusal.{refusal, number_of};
 ghost use Rattle.picture.specs.Picture.{inputs};

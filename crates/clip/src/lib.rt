@@ -1,4 +1,6 @@
 // The ends of a window, clipped to the picture.
+#![tactic(auto)]
+
 ghost use Rattle.std.specs.Prelude.{◌≡◌, suc, ◌+◌, ◌-◌, ◌<◌, min};
 ghost use Rattle.numbers.specs.Sum.{dist};
 

@@ -1,5 +1,7 @@
 // Reading the table: the table's number at a corner, the rectangle between four of them, and a window of such rectangles.
 // For callers that have checked their inputs.
+#![tactic(auto)]
+
 ghost use Rattle.std.specs.Prelude.{◌≡◌, ◌-◌, ◌≤◌, ◌<◌, min, T};
 ghost use Rattle.numbers.specs.Wrap.{wrap};
 ghost use Rattle.picture.specs.Window.{window_legal, shape_of};

@@ -1,4 +1,6 @@
 // How two pictures go together: the coefficient.
+#![tactic(auto)]
+
 ghost use Rattle.std.specs.Prelude.{◌≡◌};
 ghost use Rattle.numbers.specs.Round.{root_over};
 ghost use Rattle.wide.specs.Words.{value, scaled_value};

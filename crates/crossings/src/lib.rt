@@ -1,4 +1,6 @@
 // Where many rows come by the slopes of a window's edges: wherever that is the faster way.
+#![tactic(auto)]
+
 ghost use Rattle.std.specs.Prelude.{T};
 ghost use Rattle.picture.specs.Window.{window_legal};
 ghost use Rattle.crossings.specs.Crossings.{Pays, FromTop};

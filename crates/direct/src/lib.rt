@@ -1,4 +1,6 @@
 // The direct sum: its checks, and the sum of the plane over the window.
+#![tactic(auto)]
+
 ghost use Rattle.std.specs.Prelude.{◌≡◌};
 ghost use Rattle.picture.specs.Picture.{inputs};
 ghost use Rattle.picture.specs.Direct.{direct_call};

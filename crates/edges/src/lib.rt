@@ -1,5 +1,7 @@
 // Many rows of a diamond's or hexagon's window sums, at a cost that does not grow with the window: the slopes of its edges are kept from row to row.
 // For callers that have checked their inputs.
+#![tactic(auto)]
+
 ghost use Rattle.std.specs.Prelude.{suc};
 ghost use Rattle.picture.specs.Window.{shape_of};
 ghost use Rattle.picture.specs.Picture.{source, inputs, plane_at};

@@ -1,5 +1,7 @@
 // The values of two rows, one entering and one leaving a row of sums.
 // For callers that have checked their inputs.
+#![tactic(auto)]
+
 ghost use Rattle.std.specs.Prelude.{◌≡◌, pos, ◌+ℤ◌, ◌-ℤ◌, length, get_or};
 ghost use Rattle.numbers.specs.Grid.{tabulate};
 ghost use Rattle.numbers.specs.Wrap.{wrap};

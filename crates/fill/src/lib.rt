@@ -1,6 +1,8 @@
 // Building the table, one pass over the picture: a row of levels is summed as it is read; any other row of the plane is written where the table's is to
 // stand, and summed there.
 // For callers that have checked their inputs.
+#![tactic(auto)]
+
 ghost use Rattle.std.specs.Prelude.{◌≡◌};
 ghost use Rattle.picture.specs.Picture.{source, plane_at};
 ghost use Rattle.cumulative.specs.Table.{table_of};

@@ -1,5 +1,7 @@
 // The work area on row 0: a diamond's or hexagon's window sums, one row of the window after the other, and a rectangle's column sums.
 // For callers that have checked their inputs.
+#![tactic(auto)]
+
 ghost use Rattle.std.specs.Prelude.{◌≡◌, leb, pos, ◌+ℤ◌, get_or};
 ghost use Rattle.numbers.specs.Grid.{tabulate};
 ghost use Rattle.numbers.specs.Sum.{sum_to, pick};

@@ -1,5 +1,7 @@
 // The flat parts of a diamond's or hexagon's edges: the rows that enter and leave whole, summed across the row.
 // For callers that have checked their inputs.
+#![tactic(auto)]
+
 ghost use Rattle.std.specs.Prelude.{◌≡◌, leb, pos, ◌+ℤ◌, get_or};
 ghost use Rattle.numbers.specs.Grid.{tabulate};
 ghost use Rattle.numbers.specs.Sum.{sum_to, pick};

@@ -1,5 +1,7 @@
 // The first steady cell of some rows, from N, S and A of their cells.
 // For callers that have checked their inputs.
+#![tactic(auto)]
+
 ghost use Rattle.std.specs.Prelude.{◌≡◌, false};
 ghost use Rattle.statistics.specs.SixSums.{impossible};
 ghost use Rattle.statistics.specs.Voice.{voice};

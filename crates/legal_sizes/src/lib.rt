@@ -1,4 +1,6 @@
 // The limits of a size as tests: its rows and columns, a cell of it, the length of its areas.
+#![tactic(auto)]
+
 ghost use Rattle.std.specs.Prelude.{◌≡◌, ◌&&◌, T, ltb, eqb};
 ghost use Rattle.picture.specs.Size.{size_legal, cells};
 

@@ -1,4 +1,6 @@
 // The limits of a window and of a shift as tests.
+#![tactic(auto)]
+
 ghost use Rattle.std.specs.Prelude.{◌≡◌};
 ghost use Rattle.picture.specs.Window.{between, rectangle_legal, diamond_legal, hexagon_legal, window_legal};
 ghost use Rattle.picture.specs.Picture.{shift_legal};

@@ -1,5 +1,7 @@
 // A row of the table from a row of levels and the row above: the loop that sums the levels as it reads them.
 // For callers that have checked their inputs.
+#![tactic(auto)]
+
 ghost use Rattle.std.specs.Prelude.{pos, length, get_or};
 ghost use Rattle.row_sums.specs.RowSums.{RowRoom, NextRow};
 

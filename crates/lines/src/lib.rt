@@ -1,5 +1,7 @@
 // Where the counting cells of a row stand in the pictures.
 // For callers that have checked their inputs.
+#![tactic(auto)]
+
 ghost use Rattle.std.specs.Prelude.{◌≡◌};
 ghost use Rattle.lines.specs.Lines.{LineAsked, line_of};
 

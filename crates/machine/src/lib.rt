@@ -1,4 +1,6 @@
 // The few other operations that the language lacks: the difference and the product of two levels, and the magnitude of an i64.
+#![tactic(auto)]
+
 ghost use Rattle.std.specs.Prelude.{◌≡◌, pos, nat_abs, ◌+ℤ◌, ◌-ℤ◌, ◌*ℤ◌};
 
 // e + 32,768: it widens with zeros, which costs less than the sign does.

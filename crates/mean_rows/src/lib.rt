@@ -1,5 +1,7 @@
 // The mean at every cell: N and S of a row from its row steps, and the mean of each of its cells.
 // For callers that have checked their inputs.
+#![tactic(auto)]
+
 ghost use Rattle.std.specs.Prelude.{◌≡◌};
 ghost use Rattle.smoothed.specs.Smoothing.{smoothed};
 ghost use Rattle.mean_rows.specs.Asked.{SmoothAsked, MeanRowsAsked};

@@ -1,5 +1,7 @@
 // The means of a row of cells from their N and S.
 // For callers that have checked their inputs.
+#![tactic(auto)]
+
 ghost use Rattle.std.specs.Prelude.{◌≡◌, nat_abs};
 ghost use Rattle.numbers.specs.Round.{nearest};
 ghost use Rattle.quotients.specs.Quotients.{reciprocal};

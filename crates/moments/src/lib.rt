@@ -1,4 +1,6 @@
 // Mean, variance and deviation of six sums.
+#![tactic(auto)]
+
 ghost use Rattle.std.specs.Prelude.{◌≡◌};
 ghost use Rattle.numbers.specs.Round.{nearest};
 ghost use Rattle.statistics.specs.Moments.{mean_call, variance_call, deviation_call};

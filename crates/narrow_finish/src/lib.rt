@@ -1,5 +1,7 @@
 // The work row takes in the slopes of planes 0, 1 and 2, whose values are ones and levels: rows of 16 bits, and slopes of 32.
 // For callers that have checked their inputs.
+#![tactic(auto)]
+
 ghost use Rattle.std.specs.Prelude.{◌≡◌, ◌+◌, ◌^◌, ◌≤◌, ◌<◌, ◌+ℤ◌, ◌-ℤ◌, length};
 ghost use Rattle.std.specs.Int.Signed.{mag};
 ghost use Rattle.numbers.specs.Grid.{tabulate};

@@ -1,5 +1,7 @@
 // Which places count along one side of the picture under a shift.
 // For callers that have checked their inputs.
+#![tactic(auto)]
+
 ghost use Rattle.std.specs.Prelude.{◌≡◌, min, max};
 ghost use Rattle.overlaps.specs.Overlaps.{Overlapping, ClipAsked, Clipped};
 

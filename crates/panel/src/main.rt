@@ -1,4 +1,6 @@
 // The program panel: a picture's text from standard input, its smoothed picture, or the line of a refusal, to standard output.
+#![tactic(auto)]
+
 ghost use Rattle.std.specs.Prelude.{◌≡◌, length};
 
 use libc::{STDIN_FILENO, STDOUT_FILENO};

@@ -1,4 +1,6 @@
 // The levels of panel's text.
+#![tactic(auto)]
+
 ghost use Rattle.std.specs.Prelude.{◌≡◌, length};
 ghost use Rattle.panel_scan.specs.Scan.{numbers_from};
 ghost use Rattle.panel_language.specs.Panel.{levels_of};

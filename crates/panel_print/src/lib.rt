@@ -1,5 +1,7 @@
 // From the numbers of panel's output to bytes: decimal digits, a line of means, all lines, and the line of a refusal. Each writes from a place of the
 // area on and answers the place after it.
+#![tactic(auto)]
+
 ghost use Rattle.std.specs.Prelude.{◌+◌, ◌≤◌, ◌∷◌, [], ◌++◌, length};
 ghost use Rattle.panel_language.specs.Text.{decimal, printed};
 ghost use Rattle.panel_language.specs.Panel.{lines_of, refused_line};

@@ -1,4 +1,6 @@
 // From the numbers of panel's text to what it asks for: the size, the window, the levels.
+#![tactic(auto)]
+
 ghost use Rattle.std.specs.Prelude.{◌≡◌, ◌≤◌, length};
 ghost use Rattle.panel_scan.specs.Scan.{numbers_from};
 ghost use Rattle.panel_language.specs.Panel.{count_of, panel_size, filled, parsed};

@@ -1,4 +1,6 @@
 // From the bytes of panel's text to numbers: the dividers are passed over, a run is found, and its number is taken.
+#![tactic(auto)]
+
 ghost use Rattle.std.specs.Prelude.{◌≡◌, ◌-◌, ◌≤◌, T, pos};
 ghost use Rattle.panel_language.specs.Text.{divides, is_digit, all_digits, value_from, natural, map_option, number};
 ghost use Rattle.panel_scan.specs.Scan.{RunStart, InRun, RunEnd, Digits, said, numbers_from, told};

@@ -1,4 +1,5 @@
 // The picture, its window, and two pictures under a shift: their types. What they mean stands in specs/.
+#![tactic(auto)]
 
 // "A picture has 1 to 256 rows and 1 to 1,024 columns."
 #[derive(Drop)]

@@ -1,5 +1,7 @@
 // The values of a plane at cells that all count, and a row filled with one number: one simple loop for each kind of value.
 // For callers that have checked their inputs.
+#![tactic(auto)]
+
 ghost use Rattle.std.specs.Prelude.{◌≡◌, pos, ◌*ℤ◌, length, get_or};
 ghost use Rattle.numbers.specs.Grid.{tabulate};
 ghost use Rattle.picture.specs.Picture.{plane_value};

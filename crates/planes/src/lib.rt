@@ -1,5 +1,7 @@
 // A plane's row, part by part: its values where cells count, and zeros elsewhere.
 // For callers that have checked their inputs.
+#![tactic(auto)]
+
 ghost use Rattle.std.specs.Prelude.{◌≡◌, ◌+◌, length};
 ghost use Rattle.numbers.specs.Grid.{tabulate};
 ghost use Rattle.picture.specs.Picture.{source, plane_at};

@@ -1,5 +1,7 @@
 // The whole number nearest to x / d, a half going up, for many x and few d: a division for each d, and a multiplication for each x.
 // For callers that have checked their inputs.
+#![tactic(auto)]
+
 ghost use Rattle.std.specs.Prelude.{◌≡◌};
 ghost use Rattle.numbers.specs.Round.{nearest};
 ghost use Rattle.quotients.specs.Quotients.{Divisor, reciprocal, Dividend};

@@ -1,4 +1,6 @@
 // How far a legal window goes to the sides in a row, and up and down in a column. For callers that have checked the window: each requires that it is legal.
+#![tactic(auto)]
+
 ghost use Rattle.std.specs.Prelude.{◌≡◌, T};
 ghost use Rattle.picture.specs.Window.{window_legal, shape_of, height, reach, width, depth};
 

@@ -1,4 +1,6 @@
 // Calls with one fault or two: each is to be refused by the smaller number, with every area as it was.
+#![tactic(auto)]
+
 use rows::Moved;
 use smoothing::SteadyAnswer;
 use trial_cases::faults::{Call, Faults};

@@ -9,6 +9,7 @@
 // The status is 0 where the call was answered; else the number of its refusal, 1 to 9, or that of an answer with no value. At every status
 // but 0 nothing is written: areas, results and position keep their bytes. (A text that panel refuses is answered: the line that says so is
 // what panel prints.)
+#![tactic(auto)]
 
 // The statuses of answers with no value.
 pub const EMPTY: i32 = -1;

@@ -1,4 +1,6 @@
 // The rival: sums straight from document 01's definitions, each cell of the picture asked whether it belongs.
+#![tactic(auto)]
+
 use trial_cases::cases::Case;
 use trial_tools::areas;
 

@@ -1,5 +1,7 @@
 // The nearest whole quotient, the whole root of a ratio, and a whole number over 32,768.
 // For callers that have checked their inputs.
+#![tactic(auto)]
+
 ghost use Rattle.std.specs.Prelude.{◌≡◌, ◌≤◌, nat_abs};
 ghost use Rattle.numbers.specs.Round.{nearest, root_over};
 ghost use Rattle.statistics.specs.Voice.{over32768};

@@ -1,4 +1,6 @@
 // The row call on a plain position: its checks, and the sums of the next rows.
+#![tactic(auto)]
+
 ghost use Rattle.std.specs.Prelude.{◌≡◌};
 ghost use Rattle.picture.specs.Refusal.{refusal, number_of};
 ghost use Rattle.picture.specs.Picture.{inputs};

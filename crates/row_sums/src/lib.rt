@@ -1,5 +1,7 @@
 // The table's rows, each from the plane's row and the row above: loops over one row.
 // For callers that have checked their inputs.
+#![tactic(auto)]
+
 ghost use Rattle.std.specs.Prelude.{◌≤◌, length};
 ghost use Rattle.row_sums.specs.RowSums.{RowRoom, row_from, NextRow, FirstRow};
 

@@ -1,5 +1,7 @@
 // The values of a row's cells, summed: one simple loop for each kind of value.
 // For callers that have checked their inputs.
+#![tactic(auto)]
+
 ghost use Rattle.std.specs.Prelude.{◌≡◌, ◌≤◌, pos, ◌*ℤ◌, length, get_or};
 ghost use Rattle.numbers.specs.Sum.{sum_to};
 ghost use Rattle.numbers.specs.Wrap.{wrap};

@@ -1,5 +1,7 @@
 // The first steady cell: N, S and A of 16 rows at a time, and the first of their cells whose voice answer is Steady.
 // For callers that have checked their inputs.
+#![tactic(auto)]
+
 ghost use Rattle.std.specs.Prelude.{◌≡◌};
 ghost use Rattle.picture.specs.Refusal.{answered};
 ghost use Rattle.picture.specs.Picture.{inputs};

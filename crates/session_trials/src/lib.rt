@@ -1,4 +1,6 @@
 // Row sessions beside the rival's: lists of calls from a fresh session, and from foreign positions and work areas.
+#![tactic(auto)]
+
 use rival::recurrence;
 use rival::recurrence::Begun;
 use rows::Moved;

@@ -1,5 +1,7 @@
 // A legal window: whether it is a rectangle, and how far it goes up and down, and to the sides. With the checks and `reaches`, the only code that knows what a
 // shape is. For callers that have checked the window: each requires that it is legal.
+#![tactic(auto)]
+
 ghost use Rattle.std.specs.Prelude.{◌≡◌, T};
 ghost use Rattle.picture.specs.Window.{window_legal, shape_of, is_rectangle, height, width};
 

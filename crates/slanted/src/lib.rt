@@ -1,5 +1,7 @@
 // A diamond's or hexagon's window sums from one row to the next: the cells on its lower edge enter, and those on its upper edge leave.
 // For callers that have checked their inputs.
+#![tactic(auto)]
+
 ghost use Rattle.std.specs.Prelude.{◌≡◌, pos, ◌+ℤ◌, get_or, suc, min};
 ghost use Rattle.numbers.specs.Grid.{tabulate};
 ghost use Rattle.numbers.specs.Wrap.{wrap};

@@ -1,6 +1,8 @@
 // From one row to the next of a diamond's or hexagon's window sums, by the slopes of its edges, which move on with it: planes 0, 1 and 2, whose values are
 // ones and levels, in rows of 16 bits and slopes of 32.
 // For callers that have checked their inputs.
+#![tactic(auto)]
+
 ghost use Rattle.std.specs.Prelude.{◌≡◌, ◌≤◌};
 ghost use Rattle.picture.specs.Picture.{source};
 ghost use Rattle.kept_slopes.specs.Edges.{edged, TakeAsked, LeavingAsked, LeavingDone};

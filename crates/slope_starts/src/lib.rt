@@ -1,6 +1,8 @@
 // The slopes of a diamond's or hexagon's edges on the row where a call begins: planes 0, 1 and 2, whose values are ones and levels, in rows of 16 bits and
 // slopes of 32.
 // For callers that have checked their inputs.
+#![tactic(auto)]
+
 ghost use Rattle.std.specs.Prelude.{◌≡◌, ◌≤◌, ◌-ℤ◌, length};
 ghost use Rattle.numbers.specs.Grid.{tabulate};
 ghost use Rattle.picture.specs.Picture.{source};

@@ -1,4 +1,6 @@
 // Smoothing and the steady search beside the rival's.
+#![tactic(auto)]
+
 ghost use Rattle.std.specs.Prelude.{◌≡◌, length};
 
 use rival::moments;

@@ -1,4 +1,5 @@
 // Statistics of six sums: what they take, what they answer, and what that means. The functions are in `central`, `moments` and `correlation`.
+#![tactic(auto)]
 
 // "These take six sums N, S, T, A, B, P (planes 0 to 5)."
 #[derive(Drop)]

@@ -1,4 +1,5 @@
 // Trials of the statistics beside the rival: of the sums of pictures, of named sums, and of impossible ones.
+#![tactic(auto)]
 
 mod answers; // answers.rt: answers of the statistics in parts
 pub mod six_sums; // six_sums.rt: possible sums

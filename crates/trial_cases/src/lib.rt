@@ -1,4 +1,5 @@
 // What the trials give to the operations, and how they take the answers: cases and cells, calls with faults, answers as numbers.
+#![tactic(auto)]
 
 pub mod cases; // cases.rt: a case of the trials
 mod generated; // generated.rt: cases made of the generator's numbers

@@ -1,5 +1,6 @@
 // Runs the library's operations beside a simple rival and prints, for each group of trials, how many things it compared, how many
 // of them differed, and a checksum of what the library gave.
+#![tactic(auto)]
 
 mod texts; // texts.rt: panel's texts
 

@@ -1,4 +1,6 @@
 // The voice answer of six sums.
+#![tactic(auto)]
+
 ghost use Rattle.std.specs.Prelude.{◌≡◌};
 ghost use Rattle.statistics.specs.Voice.{voice_call};
 ghost use Rattle.statistics.specs.Answers.{voice_outcome};

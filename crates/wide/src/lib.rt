@@ -1,4 +1,6 @@
 // Products past 64 bits, as words of 64: the product of two u64, and a product times a u32.
+#![tactic(auto)]
+
 ghost use Rattle.std.specs.Prelude.{◌≡◌, ◌*◌};
 ghost use Rattle.wide.specs.Words.{value, scaled_value};
 

@@ -1,5 +1,7 @@
 // Many rows of a diamond's or hexagon's window sums by the slopes of its edges, for planes 3, 4 and 5, whose values are products of levels: rows and slopes of
 // 64 bits. It is right for every plane. For callers that have checked their inputs.
+#![tactic(auto)]
+
 ghost use Rattle.std.specs.Prelude.{suc};
 ghost use Rattle.picture.specs.Window.{shape_of};
 ghost use Rattle.picture.specs.Picture.{source, inputs, plane_at};

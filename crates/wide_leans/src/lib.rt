@@ -1,5 +1,7 @@
 // Loops over the slopes of planes 3, 4 and 5, whose values are products of levels: rows and slopes of 64 bits.
 // For callers that have checked their inputs.
+#![tactic(auto)]
+
 ghost use Rattle.std.specs.Prelude.{◌≡◌, ◌^◌, ◌≤◌, ◌+ℤ◌, ◌-ℤ◌, length};
 ghost use Rattle.std.specs.Int.Signed.{mag};
 ghost use Rattle.numbers.specs.Grid.{tabulate};

@@ -1,4 +1,6 @@
 // The order of products past 64 bits.
+#![tactic(auto)]
+
 ghost use Rattle.std.specs.Prelude.{◌≡◌, leb};
 ghost use Rattle.wide.specs.Words.{value, scaled_value};
 

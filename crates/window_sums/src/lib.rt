@@ -1,5 +1,7 @@
 // The sum of a plane over a window: row by row of the window, each row's part straight from the levels.
 // For callers that have checked their inputs.
+#![tactic(auto)]
+
 ghost use Rattle.std.specs.Prelude.{◌≡◌, ◌+ℤ◌};
 ghost use Rattle.numbers.specs.Sum.{sum_to};
 ghost use Rattle.numbers.specs.Wrap.{wrap};

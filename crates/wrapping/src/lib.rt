@@ -1,4 +1,6 @@
 // Sums and differences of i64 that wrap at 64 bits.
+#![tactic(auto)]
+
 ghost use Rattle.std.specs.Prelude.{◌≡◌, ◌+ℤ◌, ◌-ℤ◌};
 ghost use Rattle.numbers.specs.Wrap.{residue, spelled, wrap};
 
