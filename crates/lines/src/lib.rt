@@ -9,7 +9,7 @@ use overlaps::Overlap;
 use picture::Size;
 
 // A row of a plane: whether its cells count, and where the first that counts stands in f and in g.
-#[derive(Drop)]
+#[derive(Clone, Copy)]
 pub struct Line {
     pub counts: bool,
     pub f: usize,

@@ -7,7 +7,7 @@ ghost use Rattle.overlaps.specs.Overlaps.{Overlapping, ClipAsked, Clipped};
 
 // The places that count along one side of the picture under a shift: from `first` up to `end`; the place of g that belongs to
 // `first` is `other`.
-#[derive(Drop)]
+#[derive(Clone, Copy)]
 pub struct Overlap {
     pub first: usize,
     pub end: usize,

@@ -11,21 +11,21 @@ use panel_scan::{Token, next};
 use picture::{Size, Window};
 
 // The size and the place after it, or the number of the refusal.
-#[derive(Drop)]
+#[derive(Clone, Copy)]
 pub enum SizeRead {
     Refused(u32),
     Taken(Size, usize),
 }
 
 // The window and the place after it.
-#[derive(Drop)]
+#[derive(Clone, Copy)]
 pub enum WindowRead {
     Malformed,
     Taken(Window, usize),
 }
 
 // The size and the window of a text that is taken, or the number of the refusal.
-#[derive(Drop)]
+#[derive(Clone, Copy)]
 pub enum Parsed {
     Refused(u32),
     Taken(Size, Window),

@@ -6,14 +6,14 @@ ghost use Rattle.panel_language.specs.Text.{divides, is_digit, all_digits, value
 ghost use Rattle.panel_scan.specs.Scan.{RunStart, InRun, RunEnd, Digits, said, numbers_from, told};
 
 // What a run of bytes says: a number, or that it is malformed.
-#[derive(Drop)]
+#[derive(Clone, Copy)]
 pub enum Run {
     Malformed,
     Number(i32),
 }
 
 // What stands next in the text, and the place after it.
-#[derive(Drop)]
+#[derive(Clone, Copy)]
 pub enum Token {
     End,
     Malformed(usize),

@@ -9,7 +9,7 @@ use trial_tools::tally::Tally;
 use trial_tools::{areas, random, tally};
 
 // The areas of a call, before it or after it, and the number by which it was refused.
-#[derive(Drop)]
+#[derive(Clone, Copy)]
 struct Areas {
     work: [i64; 5200],
     out: [i64; 5200],

@@ -60,7 +60,7 @@ fn moved(c: Case, f: &[i16], g: &[i16], from: usize, to: usize, j: usize, number
 }
 
 // Where a call begins: its position, and whether its session began fresh.
-#[derive(Drop)]
+#[derive(Clone, Copy)]
 pub struct Begun {
     pub fresh: bool,
     pub position: usize,

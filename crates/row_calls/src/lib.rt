@@ -10,14 +10,14 @@ ghost use Rattle.row_calls.specs.Answers.{rows_outcome};
 use picture::{Shift, Size, Window};
 
 // The answer of a row call: the number of its refusal, or the granted count.
-#[derive(Drop)]
+#[derive(Clone, Copy)]
 pub enum RowsAnswer {
     Refused(u32),
     Granted(usize),
 }
 
 // The answer, and the position after the call.
-#[derive(Drop)]
+#[derive(Clone, Copy)]
 pub struct Moved {
     pub answer: RowsAnswer,
     pub position: usize,

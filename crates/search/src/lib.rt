@@ -14,7 +14,7 @@ use blocks::next;
 use picture::{Cell, Shift, Size, Window};
 
 // The answer of the steady search: the number of its refusal, None, or the cell.
-#[derive(Drop)]
+#[derive(Clone, Copy)]
 pub enum SteadyAnswer {
     Refused(u32),
     Nowhere,

@@ -12,7 +12,7 @@ use trial_tools::{areas, random, tally};
 pub mod answers; // answers.rt: answers of the row session as numbers
 
 // What a call asks for: a request, and the lengths of its work and output areas.
-#[derive(Drop)]
+#[derive(Clone, Copy)]
 struct Asked {
     request: usize,
     work: usize,
@@ -20,7 +20,7 @@ struct Asked {
 }
 
 // Where a list of calls stands: its position, and both areas.
-#[derive(Drop)]
+#[derive(Clone, Copy)]
 struct Stand {
     position: usize,
     work: [i64; 5200],
@@ -212,7 +212,7 @@ fn call(c: Case, f: &[i16], g: &[i16], fresh: bool, a: Asked, s: Stand) -> Stand
 }
 
 // What the calls of a list have in common.
-#[derive(Drop)]
+#[derive(Clone, Copy)]
 struct Common {
     case: Case,
     fresh: bool,

@@ -94,7 +94,7 @@ fn steady(c: Case, f: &[i16], g: &[i16], t: Tally) -> Tally {
 }
 
 // The two tallies of this group.
-#[derive(Drop)]
+#[derive(Clone, Copy)]
 struct Tallies {
     means: Tally,
     steady: Tally,

@@ -8,7 +8,7 @@ use native.Mathlib.Nat.{mul-pos, pow-suc, zero-lt-suc, eq_of_mul-eq-mul_right}
 use lib.Dec.{T, eqb, ltb, leb, eqb→eq}
 use lib.IntN.{ℤ, pos, negsuc}
 use lib.Pow.{pow-add}
-use lib.Ieee.{Float, fin, Format, prec, emax, low, up, down, fits}
+use lib.Ieee.{Float, fin, nan, inf, Format, prec, emax, low, up, down, fits}
 use lib.Ieee.Exact.{HasValue}
 use lib.Ieee.Fits.{and_l, up_pos, down_pos}
 
@@ -57,3 +57,9 @@ value-unique f (fin t (suc m) e) (fin u zero g) s a c h p q v w = absurd (omega 
 value-unique f (fin t (suc m) e) (fin u (suc n) g) s a c h p q v w =
     let r = exponents (suc m) (suc n) e g (is_odd f t m e p) (is_odd f u n g q) (crossed a c (suc m * up e) (suc n * up g) (down e) (down g) h v.1 w.1) in
     λ i. fin ((v.0 ∙ sym w.0) i) (r.0 i) (r.1 i)
+value-unique f nan y s a c h p q v w = elim v [ ]
+value-unique f (inf _) y s a c h p q v w = elim v [ ]
+value-unique f (fin t zero e) nan s a c h p q v w = elim w [ ]
+value-unique f (fin t zero e) (inf _) s a c h p q v w = elim w [ ]
+value-unique f (fin t (suc m) e) nan s a c h p q v w = elim w [ ]
+value-unique f (fin t (suc m) e) (inf _) s a c h p q v w = elim w [ ]

@@ -2,7 +2,7 @@
 #![tactic(auto)]
 
 // "These take six sums N, S, T, A, B, P (planes 0 to 5)."
-#[derive(Drop)]
+#[derive(Clone, Copy)]
 pub struct Sums {
     pub n: i64,
     pub s: i64,
@@ -13,7 +13,7 @@ pub struct Sums {
 }
 
 // The central moments of f and g, times N²: "Vf = N·A - S², Vg = N·B - T², C = N·P - S·T". N, Vf and Vg of possible sums are not negative.
-#[derive(Drop)]
+#[derive(Clone, Copy)]
 pub struct CentralMoments {
     pub count: u64,
     pub vf: u64,
@@ -22,7 +22,7 @@ pub struct CentralMoments {
 }
 
 // The central moments of six sums, Empty where N = 0, or the number of the refusal.
-#[derive(Drop)]
+#[derive(Clone, Copy)]
 pub enum CentralAnswer {
     Refused(u32),
     Empty,
@@ -30,7 +30,7 @@ pub enum CentralAnswer {
 }
 
 // A whole number, Empty where N = 0, or the number of the refusal.
-#[derive(Drop)]
+#[derive(Clone, Copy)]
 pub enum WholeAnswer {
     Refused(u32),
     Empty,
@@ -38,14 +38,14 @@ pub enum WholeAnswer {
 }
 
 // "Grainy with a level and a spread"
-#[derive(Drop)]
+#[derive(Clone, Copy)]
 pub struct Grain {
     pub level: f32,
     pub spread: f32,
 }
 
 // "Empty if N = 0; Steady with a level if Vf = 0; otherwise Grainy with a level and a spread."
-#[derive(Drop)]
+#[derive(Clone, Copy)]
 pub enum Voice {
     Empty,
     Steady(f32),
@@ -53,14 +53,14 @@ pub enum Voice {
 }
 
 // A voice, or the number of the refusal.
-#[derive(Drop)]
+#[derive(Clone, Copy)]
 pub enum VoiceAnswer {
     Refused(u32),
     Heard(Voice),
 }
 
 // "Empty if N = 0; Flat if Vf or Vg is 0; otherwise the sign of C times the largest whole c"
-#[derive(Drop)]
+#[derive(Clone, Copy)]
 pub enum CoefficientAnswer {
     Refused(u32),
     Empty,

@@ -2,7 +2,7 @@
 use statistics::{CoefficientAnswer, Voice, VoiceAnswer, WholeAnswer};
 
 // A whole number or a coefficient: its kind is 0 a refusal and 1 Empty; then 2 a whole number, or 2 Flat and 3 a coefficient.
-#[derive(Drop)]
+#[derive(Clone, Copy)]
 pub struct Given {
     pub kind: u64,
     pub refusal: u64,
@@ -35,7 +35,7 @@ pub fn coefficient(answer: CoefficientAnswer) -> Given {
 }
 
 // A voice answer in parts: 0 a refusal, 1 Empty, 2 Steady, 3 Grainy; its level and its spread, 0 where it has none.
-#[derive(Drop)]
+#[derive(Clone, Copy)]
 pub struct Heard {
     pub kind: u64,
     pub refusal: u64,

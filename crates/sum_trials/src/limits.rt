@@ -6,7 +6,7 @@ use trial_tools::tally::Tally;
 use trial_tools::{random, tally};
 
 // A case, and the number by which it is to be refused, 0 where it is to be taken.
-#[derive(Drop)]
+#[derive(Clone, Copy)]
 struct Limit {
     case: Case,
     refusal: u64,

@@ -7,7 +7,7 @@ use trial_tools::tally::Tally;
 use trial_tools::{areas, random, tally};
 
 // The three tallies of this group.
-#[derive(Drop)]
+#[derive(Clone, Copy)]
 struct Tallies {
     entries: Tally,
     built: Tally,

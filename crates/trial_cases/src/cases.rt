@@ -1,7 +1,7 @@
 // A case of the trials: what a call is given, with natural numbers throughout; a shift is raised by its limit.
 use picture::{Shift, Size, Window};
 
-#[derive(Drop)]
+#[derive(Clone, Copy)]
 pub struct Case {
     pub rows: usize,
     pub columns: usize,

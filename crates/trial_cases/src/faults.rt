@@ -1,7 +1,7 @@
 // Calls on a picture of 5 rows and 7 columns, and their faults by the numbers of document 01's table, four forms of each.
 use picture::{Cell, Shift, Size, Window};
 
-#[derive(Drop)]
+#[derive(Clone, Copy)]
 pub struct Call {
     pub size: Size,
     pub f: usize, // the lengths of the pictures
@@ -17,7 +17,7 @@ pub struct Call {
 }
 
 // Two faults of a call, the other one made last: each a number from 1 to 8, 0 none, and a form from 0 to 3.
-#[derive(Drop)]
+#[derive(Clone, Copy)]
 pub struct Faults {
     pub one: usize,
     pub form: usize,

@@ -41,7 +41,7 @@ pub fn large_case(k: usize) -> Case {
 }
 
 // A case, and at how many of its cells it is tried.
-#[derive(Drop)]
+#[derive(Clone, Copy)]
 pub struct Trial {
     pub case: Case,
     pub cells: usize,

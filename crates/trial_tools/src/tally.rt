@@ -1,7 +1,7 @@
 // What a group of trials has compared: how many things, how many of them differed, and a checksum of what the library gave.
 use libc::STDOUT_FILENO;
 
-#[derive(Drop)]
+#[derive(Clone, Copy)]
 pub struct Tally {
     pub compared: u64,
     pub different: u64,

@@ -5,14 +5,14 @@ ghost use Rattle.std.specs.Prelude.{◌≡◌, ◌*◌};
 ghost use Rattle.wide.specs.Words.{value, scaled_value};
 
 // high · 2^64 + low
-#[derive(Drop)]
+#[derive(Clone, Copy)]
 pub struct Product {
     pub high: u64,
     pub low: u64,
 }
 
 // (top · 2^64 + middle) · 2^64 + low
-#[derive(Drop)]
+#[derive(Clone, Copy)]
 pub struct Scaled {
     pub top: u64,
     pub middle: u64,

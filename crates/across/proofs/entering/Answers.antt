@@ -1,0 +1,28 @@
+-- `across::entering` meets its contract. Assumes nothing.
+use borrow.Author.Rules.{rules}
+use mathlib.Core.Path.{◌≡◌, refl, ◌∙◌}
+use Prim.Native.Nat.{◌+◌, ◌-◌, ◌≤◌}
+use native.Mathlib.Omega.{arith}
+use mir.Syntax.{w64}
+use mir.Val.{SFits, to_z, of_z}
+use mir.Facts.{to_z-of_z}
+use Rattle.numbers.proofs.Writes.{at}
+use Rattle.across.specs.Across.{neighbour_sum, range_sum, Written}
+use Rattle.across.proofs.Ranges.{range-enter, range_at, range-near, written_none, written-more, written-upto}
+use Rattle.across.proofs.entering.Goals as goal
+
+pub loop-j-preserved : goal.loop-j-preserved
+loop-j-preserved c =
+    let a = c.args in
+    let l = c.loop-j in
+    let work = a.work.now in
+    let b = a.b in
+    let j = l.j in
+    let x : SFits w64 (at work (j + b)) = record { sfits = c.wrapping_add-arg-1.given } in
+    let r : SFits w64 c.wrapping_add-s.result = record { sfits = c.wrapping_add-s.type_inv } in
+    let e : to_z w64 (of_z w64 c.wrapping_add-s.result) ≡ range_sum work 0 (j + b + 1) =
+    simp (to_z-of_z, r) (simp (to_z-of_z, x) at c.wrapping_add-s.ensures ∙ range-enter work 0 (j + b) (to_z w64 l.s-bits) l.invariant.1) in (
+      omega arith,
+      e ∙ range_at work _ _ _ _ refl (omega arith),
+      written-more l.invariant.2 _ (omega arith) (omega arith) (e ∙ range-near work b j 0 (j + b + 1) (omega arith) (omega arith)),
+    )

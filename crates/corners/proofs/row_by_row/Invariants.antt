@@ -1,0 +1,20 @@
+-- What the loops of `corners::row_by_row` keep. Assumes nothing.
+use mathlib.Core.Path.{◌≡◌, ◌∙◌}
+use Prim.Native.Nat.{◌+◌, ◌-◌, ◌≤◌, ◌<◌}
+use native.Mathlib.Omega.{arith}
+use borrow.Author.Rules.{rules}
+use mir.Facts.{to_z-of_z}
+use mir.Syntax.{w64}
+use mir.Val.{SFits, to_z}
+use Rattle.numbers.specs.Sum.{sum_to}
+use Rattle.numbers.specs.Wrap.{wrap}
+use Rattle.numbers.proofs.Running.{range_none, range-more}
+use Rattle.picture.specs.Window.{shape_of}
+use Rattle.corners.proofs.Rectangles.{row_part, part-read, rows-read, reach-small}
+use Rattle.corners.proofs.row_by_row.Given as goal
+
+abbrev pub invariant-loop-m : goal.invariant-loop-m
+invariant-loop-m l = (l.initial.m ≤ l.m) × (l.m ≤ l.end) × (l.sum ≡ wrap (sum_to (l.m - l.initial.m) (λ k. row_part l.size l.table (shape_of l.window) l.row l.column (l.initial.m + k))))
+
+abbrev pub decreases-loop-m : goal.decreases-loop-m
+decreases-loop-m l = l.end - l.m

@@ -1,0 +1,11 @@
+-- `legal_sizes::is_full` meets its contract. Assumes nothing.
+use mathlib.Core.Path.{refl}
+use native.Mathlib.Omega.{arith}
+use native.Mathlib.Nat.{mul-le-mul}
+use Rattle.picture.proofs.Refusals.{in-limits}
+use Rattle.legal_sizes.proofs.is_full.Goals as goal
+
+pub overflow_mul-result : goal.overflow_mul-result
+overflow_mul-result c =
+    let l = in-limits c.args.size c.requires in
+    omega (arith, mul-le-mul l.few_rows l.few_columns)

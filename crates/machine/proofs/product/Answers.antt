@@ -1,0 +1,15 @@
+-- `machine::product` meets its contract. Assumes nothing.
+use mathlib.Core.Path.{◌≡◌}
+use lib.IntN.{ℤ, ◌*ℤ◌}
+use mir.Syntax.{w16, w32, w64}
+use mir.Val.{SFits}
+use mir.Facts.{to_z-of_z}
+use Rattle.numbers.proofs.Widths.{fits-16-32, fits_32_64, product-fits}
+use Rattle.machine.proofs.product.Goals as goal
+
+pub returns : goal.returns
+returns c =
+    let f = c.ranges.a in
+    let g = c.ranges.b in
+    let p = product-fits _ _ f g in
+    simp (to_z-of_z, f, g, fits-16-32 _ f, fits-16-32 _ g, p, fits_32_64 _ p)

@@ -1,0 +1,41 @@
+-- `narrow_leans::slide` meets its contract. Assumes nothing.
+use borrow.Author.Rules.{rules}
+use mathlib.Core.Path.{◌≡◌, ◌∙◌, ap}
+use Prim.Native.Nat.{ℕ, ◌+◌, ◌-◌, ◌^◌, ◌≤◌, ◌<◌}
+use native.Mathlib.Omega.{arith}
+use lib.IntN.{ℤ, ◌+ℤ◌, ◌-ℤ◌}
+use lib.Signed.{mag}
+use mir.Facts.{to_z-of_z}
+use mir.Syntax.{w16, w32}
+use mir.Val.{SFits}
+use Rattle.numbers.proofs.Writes.{at}
+use Rattle.slopes.specs.Leans.{Moved, slid}
+use Rattle.slopes.proofs.Loops.{moved_none, moved-next, moved_more, mag-add, mag-sub, add_turned}
+use Rattle.narrow_leans.proofs.slide.Goals as goal
+
+pub loop-x-preserved : goal.loop-x-preserved
+loop-x-preserved c =
+    let start : tie.Start invariant-loop decreases-loop = c.before.before.before.before.before.before in
+    let x : ℕ = c.loop-x.x in
+    let sum : ℤ = at start.args.sums.now (x + start.args.s) in
+    let enter : ℤ = at start.args.a.now (x + start.args.pa) in
+    let leave : ℤ = at start.args.b.now (x + start.args.pb) in
+    let half : c.gain.result ≡ sum +ℤ (enter -ℤ leave) = 
+        let l = c.loop-x in
+        let f : SFits w32 (at l.sums (x + start.args.s)) = record { sfits = c.gain-arg-1.given } in
+        let a : SFits w16 enter = record { sfits = c.gain-arg-in-loop-x-1.given } in
+        let b : SFits w16 leave = record { sfits = c.gain-arg-in-loop-x-2-1.given } in
+        simp (to_z-of_z, f, a, b) at c.gain.ensures ∙ ap (λ (z : ℤ). z +ℤ (enter -ℤ leave)) (moved-next l.invariant.1) in
+    let one = c in
+    let s = start in
+    let l = one.loop-x in
+    let again = at s.args.c.now (l.x + s.args.pd) in
+    let gone = at s.args.b.now (l.x + s.args.pc) in
+    let h : SFits w32 one.gain.result = record { sfits = one.gain.type_inv } in
+    let a : SFits w16 again = record { sfits = c.gain-arg-in-loop-x-3-1.given } in
+    let b : SFits w16 gone = record { sfits = c.gain-arg-in-loop-x-4-1.given } in
+    let r : SFits w32 c.gain-in-loop-x.result = record { sfits = c.gain-in-loop-x.type_inv } in (
+      omega arith,
+      moved_more l.invariant.1 _ (omega (arith, s.requires.gather.room))
+          (to_z-of_z r ∙ simp (to_z-of_z, h, a, b) at c.gain-in-loop-x.ensures ∙ ap (λ (z : ℤ). z +ℤ (again -ℤ gone)) half ∙ add_turned (sum +ℤ (enter -ℤ leave)) again gone),
+    )

@@ -1,0 +1,16 @@
+-- `panel_print::lines` meets its contract. Assumes nothing.
+use borrow.Author.Rules.{rules}
+use Prim.Native.Nat.{◌+◌, ◌-◌, ◌≤◌}
+use native.Mathlib.Omega.{arith}
+use lib.ListN.{length}
+use Rattle.panel_print.proofs.Prints.{LinesUpto, lines-first, row-part, row_room, lines_next, lines-done}
+use Rattle.panel_print.proofs.lines.Goals as goal
+
+pub loop-i-preserved : goal.loop-i-preserved
+loop-i-preserved c =
+    let r = c in
+    let l = c in
+    lines_next _ _ _ _ _ _ _ _ l.requires l.loop-i.invariant r.loop-i-test.true _ _ r.line-at.ensures
+
+pub returns : goal.returns
+returns c = lines-done _ _ _ _ _ _ _ _ c.requires c.loop-i.invariant c.loop-i-test.false

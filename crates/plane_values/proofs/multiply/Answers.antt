@@ -1,0 +1,26 @@
+-- `plane_values::multiply` meets its contract. Assumes nothing.
+use borrow.Author.Rules.{rules}
+use Prim.Native.Nat.{ℕ, ◌-◌, ◌^◌, ◌<◌}
+use native.Mathlib.Omega.{arith}
+use mathlib.Core.Path.{◌≡◌}
+use lib.IntN.{ℤ, pos, ◌*ℤ◌}
+use lib.ListN.{length}
+use lib.Signed.{mag}
+use mir.Syntax.{w16, w32, w64}
+use mir.Val.{SFits, to_z, of_z}
+use mir.Facts.{to_z-of_z}
+use Rattle.numbers.proofs.Widths.{fits-16-32, fits_32_64, product-fits}
+use Rattle.numbers.proofs.Writes.{at, Upto, upto-none, upto-more, upto_all}
+use Rattle.plane_values.proofs.multiply.Goals as goal
+
+pub loop-k-preserved : goal.loop-k-preserved
+loop-k-preserved c =
+    let level-a : SFits w16 (at c.args.a.now c.loop-k.k) = record { sfits = c.out-1.given } in
+    let level-b : SFits w16 (at c.args.b.now c.loop-k.k) = record { sfits = c.out-in-loop-k-1.given } in
+    let f = level-a in
+    let g = level-b in
+    let p = product-fits _ _ f g in
+    upto-more c.loop-k.invariant _ (omega arith) (simp (to_z-of_z, f, g, fits-16-32 _ f, fits-16-32 _ g, p, fits_32_64 _ p))
+
+pub returns : goal.returns
+returns c = upto_all c.loop-k.invariant (omega arith)

@@ -1,0 +1,52 @@
+-- `planes::part` meets its contract. Assumes nothing.
+use borrow.Author.Rules.{rules}
+use Prim.Native.Nat.{◌+◌, ◌-◌, ◌*◌, ◌≤◌, ◌^◌, ◌<◌}
+use native.Mathlib.Omega.{arith}
+use native.Mathlib.Nat.{mul-le-mul}
+use lib.Dec.{leb, ltb, leb→le, ltb→lt}
+use lib.ListN.{length}
+use mir.Facts.{to_z-of_z}
+use mir.Syntax.{w32}
+use mir.Val.{SFits}
+use Rattle.numbers.proofs.Tests.{and_left, and_right}
+use Rattle.picture.specs.Picture.{Source, source}
+use Rattle.overlaps.specs.Overlaps.{Overlapping}
+use Rattle.picture.proofs.Refusals.{in-limits}
+use Rattle.planes.proofs.RowParts.{part_none, part-some, row-end, other-inside}
+use Rattle.planes.proofs.part.Goals as goal
+
+pub returns-then-row-top : goal.returns-then-row-top
+unfolding pictures
+returns-then-row-top c =
+    let down_fits : SFits w32 c.args.shift.down = record { sfits = c.struct_told-1.given.0.1 } in
+    let pictures : Source = source c.args.size c.args.f.now c.args.g.now c.args.shift c.args.plane in
+    let down-overlaps : Overlapping c.args.size.rows c.args.shift.down c.overlap_of-counting.result = simp (to_z-of_z, down_fits) at c.overlap_of-counting.ensures in
+    let s = c in
+    let o = c.overlap_of-counting.result in
+    part_none pictures s.args.row o s.requires.row_inside down-overlaps s.args.first _ _
+    (λ t. omega (arith, c.if-row-top.true, leb→le o.first s.args.row (and_left (leb o.first s.args.row) (ltb s.args.row o.end) t))) c.fill.ensures
+
+pub returns-then-bottom-row : goal.returns-then-bottom-row
+unfolding pictures
+returns-then-bottom-row c =
+    let down_fits : SFits w32 c.args.shift.down = record { sfits = c.struct_told-1.given.0.1 } in
+    let pictures : Source = source c.args.size c.args.f.now c.args.g.now c.args.shift c.args.plane in
+    let down-overlaps : Overlapping c.args.size.rows c.args.shift.down c.overlap_of-counting.result = simp (to_z-of_z, down_fits) at c.overlap_of-counting.ensures in
+    let s = c in
+    let o = c.overlap_of-counting.result in
+    part_none pictures s.args.row o s.requires.row_inside down-overlaps s.args.first _ _
+    (λ t. omega (arith, c.if-bottom-row.true, ltb→lt s.args.row o.end (and_right (leb o.first s.args.row) (ltb s.args.row o.end) t))) c.fill-then-bottom-row.ensures
+
+pub returns : goal.returns
+unfolding pictures
+returns c =
+    let down_fits : SFits w32 c.args.shift.down = record { sfits = c.struct_told-1.given.0.1 } in
+    let right-fits : SFits w32 c.args.shift.right = record { sfits = c.struct_told-1.given.1.0.1 } in
+    let pictures : Source = source c.args.size c.args.f.now c.args.g.now c.args.shift c.args.plane in
+    let down-overlaps : Overlapping c.args.size.rows c.args.shift.down c.overlap_of-counting.result = simp (to_z-of_z, down_fits) at c.overlap_of-counting.ensures in
+    let two = c in
+    let s = c in
+    let o = two.overlap_of-counting.result in
+    let r = c.overlap_of in
+    part-some pictures s.args.row o s.requires.row_inside down-overlaps r.result (simp (to_z-of_z, right-fits) at r.ensures)
+    two.if-row-top.false two.if-bottom-row.false s.requires.length_f s.requires.length_g s.args.first _ _ s.requires.part_inside c.row_part.ensures

@@ -1,0 +1,18 @@
+-- `wide::scale` meets its contract. Assumes nothing.
+use borrow.Author.Rules.{rules}
+use Prim.Native.Nat.{◌<◌, ◌^◌}
+use native.Mathlib.Omega.{arith}
+use Rattle.wide.proofs.Digits.{base, digits-fit, first_fits, second_fits, third-fits, fourth-fits, scaled}
+use Rattle.wide.proofs.scale.Goals as goal
+
+high : (c : goal.Start) → c.args.x.high < 2 ^ 64
+high c = search rules
+
+low : (c : goal.Start) → c.args.x.low < 2 ^ 64
+low c = search rules
+
+factor : (c : goal.Start) → c.args.k < base
+factor c = c.ranges.k.fits
+
+pub returns : goal.returns
+returns c = scaled c.args.x.high c.args.x.low c.args.k
