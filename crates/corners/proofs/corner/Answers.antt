@@ -7,6 +7,7 @@ use borrow.Author.Rules.{rules}
 use mir.Facts.{to_z-of_z}
 use Rattle.picture.proofs.Refusals.{in-limits}
 use Rattle.corners.proofs.Rectangles.{corner-above, corner-left, corner-inner, corner-place}
+use mir.Syntax.{w64}
 use Rattle.corners.proofs.corner.Goals as goal
 
 pub returns-then-x-eq0 : goal.returns-then-x-eq0
@@ -38,4 +39,4 @@ bounds-table-row c =
 pub returns : goal.returns
 returns c =
     let s = c in
-    to_z-of_z (search rules) ∙ corner-inner s.args.size s.args.table.now s.args.x s.args.y _ _ (omega arith) (omega arith) c.last_before-row.ensures c.last_before-column.ensures
+    to_z-of_z {w = w64} (search rules) ∙ corner-inner s.args.size s.args.table.now s.args.x s.args.y _ _ (omega arith) (omega arith) c.last_before-row.ensures c.last_before-column.ensures

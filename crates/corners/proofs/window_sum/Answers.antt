@@ -7,6 +7,7 @@ use Rattle.picture.specs.Window.{shape_of}
 use Rattle.picture.proofs.Windows.{small}
 use Rattle.cumulative.specs.Table.{read_table}
 use Rattle.corners.proofs.Rectangles.{read-as-rectangle, read-as-rows, width_small}
+use mir.Syntax.{w64}
 use Rattle.corners.proofs.window_sum.Goals as goal
 
 pub rectangle-requires : goal.rectangle-requires
@@ -20,7 +21,7 @@ pub returns-then-is_rectangle : goal.returns-then-is_rectangle
 unfolding read_table
 returns-then-is_rectangle c =
     let s = c in
-    to_z-of_z (record { sfits = c.rectangle.type_inv })
+    to_z-of_z {w = w64} (record { sfits = c.rectangle.type_inv })
     ∙ read-as-rectangle s.args.size s.args.table.now (shape_of s.args.window) _ _ s.args.cell.row s.args.cell.column c.rectangle.result
     (sym c.is_rectangle.ensures ∙ c.if-is_rectangle.true) c.height-height.ensures c.width-width.ensures c.rectangle.ensures
 
@@ -28,6 +29,6 @@ pub returns : goal.returns
 unfolding read_table
 returns c =
     let s = c in
-    to_z-of_z (record { sfits = c.row_by_row.type_inv })
+    to_z-of_z {w = w64} (record { sfits = c.row_by_row.type_inv })
     ∙ read-as-rows s.args.size s.args.table.now (shape_of s.args.window) s.args.cell.row s.args.cell.column c.row_by_row.result
     (sym c.is_rectangle.ensures ∙ c.if-is_rectangle.false) c.row_by_row.ensures

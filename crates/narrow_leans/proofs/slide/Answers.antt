@@ -15,19 +15,18 @@ use Rattle.narrow_leans.proofs.slide.Goals as goal
 
 pub loop-x-preserved : goal.loop-x-preserved
 loop-x-preserved c =
-    let start : tie.Start invariant-loop decreases-loop = c.before.before.before.before.before.before in
     let x : ℕ = c.loop-x.x in
-    let sum : ℤ = at start.args.sums.now (x + start.args.s) in
-    let enter : ℤ = at start.args.a.now (x + start.args.pa) in
-    let leave : ℤ = at start.args.b.now (x + start.args.pb) in
+    let sum : ℤ = at c.args.sums.now (x + c.args.s) in
+    let enter : ℤ = at c.args.a.now (x + c.args.pa) in
+    let leave : ℤ = at c.args.b.now (x + c.args.pb) in
     let half : c.gain.result ≡ sum +ℤ (enter -ℤ leave) = 
         let l = c.loop-x in
-        let f : SFits w32 (at l.sums (x + start.args.s)) = record { sfits = c.gain-arg-1.given } in
+        let f : SFits w32 (at l.sums (x + c.args.s)) = record { sfits = c.gain-arg-1.given } in
         let a : SFits w16 enter = record { sfits = c.gain-arg-in-loop-x-1.given } in
         let b : SFits w16 leave = record { sfits = c.gain-arg-in-loop-x-2-1.given } in
         simp (to_z-of_z, f, a, b) at c.gain.ensures ∙ ap (λ (z : ℤ). z +ℤ (enter -ℤ leave)) (moved-next l.invariant.1) in
     let one = c in
-    let s = start in
+    let s = c in
     let l = one.loop-x in
     let again = at s.args.c.now (l.x + s.args.pd) in
     let gone = at s.args.b.now (l.x + s.args.pc) in

@@ -14,42 +14,28 @@ use native.Mathlib.Omega.{arith}
 use lib.ListN.{length}
 use Rattle.panel_print.proofs.Prints.{LineUpto, line_first, line-more, line-done}
 use Rattle.panel_print.proofs.line.Goals as goal
-use Rattle.panel_print.proofs.line.Goals.{After-field, After-field-place}
 
 pub loop-k-init : goal.loop-k-init
 loop-k-init c = line_first _ _ _ c.requires.some_column
 
--- what a number and its byte wrote, within the line and at its end
-wrote :
-    (c : After-field-place) →
-    let l = c in
-    Written (printed (at l.args.row.now l.loop-k.k) ++ (space ∷ [])) l.loop-k.out l.loop-k.place c.field-place.new.out c.field-place.result ×
-    (c.field-place.result ≤ l.loop-k.place + 7)
-wrote c =
-    let l = c in
-    let f : SFits w16 (at l.args.row.now l.loop-k.k) = record { sfits = c.field-arg-1.given } in
-    simp (to_z-of_z, f) at c.field-place.ensures
-
-ended :
-    (c : After-field) →
-    let l = c in
-    Written (printed (at l.args.row.now l.loop-k.k) ++ (line_feed ∷ [])) l.loop-k.out l.loop-k.place c.field.new.out c.field.result ×
-    (c.field.result ≤ l.loop-k.place + 7)
-ended c =
-    let l = c in
-    let f : SFits w16 (at l.args.row.now l.loop-k.k) = record { sfits = c.field-arg-2-1.given } in
-    simp (to_z-of_z, f) at c.field.ensures
-
 pub loop-k-preserved : goal.loop-k-preserved
 loop-k-preserved c =
+    let wrote : let l = c in Written (printed (at l.args.row.now l.loop-k.k) ++ (space ∷ [])) l.loop-k.out l.loop-k.place c.field-place.new.out c.field-place.result × (c.field-place.result ≤ l.loop-k.place + 7) = 
+        let l = c in
+        let f : SFits w16 (at l.args.row.now l.loop-k.k) = record { sfits = c.field-arg-1.given } in
+        simp (to_z-of_z, f) at c.field-place.ensures in
     let f = c in
     let l = c in
-    let w = wrote f in
+    let w = wrote in
     line-more _ _ _ _ _ _ l.loop-k.invariant _ _ (omega (arith, f.loop-k-test.true, l.requires.some_column)) w.0 w.1
 
 pub returns : goal.returns
 returns c =
+    let ended : let l = c in Written (printed (at l.args.row.now l.loop-k.k) ++ (line_feed ∷ [])) l.loop-k.out l.loop-k.place c.field.new.out c.field.result × (c.field.result ≤ l.loop-k.place + 7) = 
+        let l = c in
+        let f : SFits w16 (at l.args.row.now l.loop-k.k) = record { sfits = c.field-arg-2-1.given } in
+        simp (to_z-of_z, f) at c.field.ensures in
     let f = c in
     let l = c in
-    let w = ended f in
+    let w = ended in
     line-done _ _ _ _ _ _ l.loop-k.invariant _ _ (omega (arith, f.loop-k-test.false, l.loop-k.invariant.inside)) w.0 w.1

@@ -15,16 +15,14 @@ returns-then-run-ne45 c = c.natural.ensures ∙ number-plain _ c.if-run-eq0.fals
 
 pub overflow_sub-result : goal.overflow_sub-result
 overflow_sub-result c =
-    let n = c in
-    let f : SFits w32 n.n-1.given.0.0 = record { sfits = c.known_told-1.given.0.1 } in
-    simp (to_z-of_z, f) (opposite-fits _ _ _ f n.natural-2.ensures n.n-1.given.1)
+    let f : SFits w32 c.in-Number.n = record { sfits = c.in-Number.known_told-1-own.given.0.1 } in
+    simp (to_z-of_z, f) (opposite-fits _ _ _ f c.natural-2.ensures c.in-Number.is)
 
 pub returns-in-Malformed : goal.returns-in-Malformed
-returns-in-Malformed c = signed-malformed _ _ c.if-run-eq0.false c.if-run-ne45.false c.natural-2.ensures c.enum_told-1.given.1
+returns-in-Malformed c = signed-malformed _ _ c.if-run-eq0.false c.if-run-ne45.false c.natural-2.ensures c.in-Malformed.is
 
 pub returns-in-Number : goal.returns-in-Number
 returns-in-Number c =
-    let n = c in
-    let f : SFits w32 n.n-1.given.0.0 = record { sfits = c.known_told-1.given.0.1 } in
-    let g = opposite-fits _ _ _ f n.natural-2.ensures n.n-1.given.1 in
-    simp (to_z-of_z, f, g) (signed-number _ _ _ n.if-run-eq0.false n.if-run-ne45.false n.natural-2.ensures n.n-1.given.1)
+    let f : SFits w32 c.in-Number.n = record { sfits = c.in-Number.known_told-1-own.given.0.1 } in
+    let g = opposite-fits _ _ _ f c.natural-2.ensures c.in-Number.is in
+    simp (to_z-of_z, f, g) (signed-number _ _ _ c.if-run-eq0.false c.if-run-ne45.false c.natural-2.ensures c.in-Number.is)

@@ -16,7 +16,6 @@ use Rattle.planes.proofs.RowParts.{part_none, part-some, row-end, other-inside}
 use Rattle.planes.proofs.part.Goals as goal
 
 pub returns-then-row-top : goal.returns-then-row-top
-unfolding pictures
 returns-then-row-top c =
     let down_fits : SFits w32 c.args.shift.down = record { sfits = c.struct_told-1.given.0.1 } in
     let pictures : Source = source c.args.size c.args.f.now c.args.g.now c.args.shift c.args.plane in
@@ -27,7 +26,6 @@ returns-then-row-top c =
     (λ t. omega (arith, c.if-row-top.true, leb→le o.first s.args.row (and_left (leb o.first s.args.row) (ltb s.args.row o.end) t))) c.fill.ensures
 
 pub returns-then-bottom-row : goal.returns-then-bottom-row
-unfolding pictures
 returns-then-bottom-row c =
     let down_fits : SFits w32 c.args.shift.down = record { sfits = c.struct_told-1.given.0.1 } in
     let pictures : Source = source c.args.size c.args.f.now c.args.g.now c.args.shift c.args.plane in
@@ -37,8 +35,18 @@ returns-then-bottom-row c =
     part_none pictures s.args.row o s.requires.row_inside down-overlaps s.args.first _ _
     (λ t. omega (arith, c.if-bottom-row.true, ltb→lt s.args.row o.end (and_right (leb o.first s.args.row) (ltb s.args.row o.end) t))) c.fill-then-bottom-row.ensures
 
+pub slice_bounds-row_part-end-2 : goal.slice_bounds-row_part-end-2
+slice_bounds-row_part-end-2 c =
+    let down_fits : SFits w32 c.args.shift.down = record { sfits = c.struct_told-1.given.0.1 } in
+    let down-overlaps : Overlapping c.args.size.rows c.args.shift.down c.overlap_of-counting.result = simp (to_z-of_z, down_fits) at c.overlap_of-counting.ensures in
+    let ends-g : (c.overlap_of-counting.result.other + (c.args.row - c.overlap_of-counting.result.first)) * c.args.size.columns + c.args.size.columns ≤ length c.args.g.now = 
+        let s = c in
+        let o = c.overlap_of-counting.result in
+        rw s.requires.length_g (row-end (o.other + (s.args.row - o.first)) s.args.size.rows s.args.size.columns
+        (other-inside o.first o.end o.other s.args.row s.args.size.rows c.if-row-top.false c.if-bottom-row.false down-overlaps.other_within)) in
+    omega (arith, ends-g)
+
 pub returns : goal.returns
-unfolding pictures
 returns c =
     let down_fits : SFits w32 c.args.shift.down = record { sfits = c.struct_told-1.given.0.1 } in
     let right-fits : SFits w32 c.args.shift.right = record { sfits = c.struct_told-1.given.1.0.1 } in

@@ -1,0 +1,60 @@
+-- `c_voice::ls_voice` meets its contract. Assumes nothing.
+use borrow.Author.Rules.{rules}
+use mathlib.Core.Path.{◌≡◌, refl, sym, ap, ◌∙◌}
+use lib.IntN.{ℤ}
+use lib.Ieee.{of_bits}
+use mir.Facts.{to_z-of_z}
+use Rattle.picture.specs.Refusal.{Outcome, refused, answered}
+use Rattle.statistics.specs.declared.Voice as declared
+use Rattle.statistics.specs.Voice.{Voice, voice_call}
+use Rattle.statistics.specs.Answers.{voice_of, voice_outcome}
+use Rattle.replies.specs.Reply.{voice_result, Reply, VoiceResult, status, result_or, sums, of_voice}
+use Rattle.replies.proofs.Numbers.{voice-small, small-fits}
+use Rattle.replies.proofs.Replies.{Returns, refused-returns, none-returns, value-returns}
+use Rattle.c_voice.proofs.ls_voice.Goals as goal
+
+-- the three results
+parts : (s : ℤ) (new old : VoiceResult) (r : Reply VoiceResult) → Returns s new old r →
+    (s ≡ status r) × ((new.kind ≡ (result_or old r).kind) × ((new.level ≡ (result_or old r).level) × (new.spread ≡ (result_or old r).spread)))
+parts s new old r h = (h.0, (ap (λ (x : VoiceResult). x.kind) h.1, (ap (λ (x : VoiceResult). x.level) h.1, ap (λ (x : VoiceResult). x.spread) h.1)))
+
+pub overflow_cast-result : goal.overflow_cast-result
+overflow_cast-result c =
+    let asked : Outcome Voice = voice_call (sums c.args.n c.args.s c.args.t c.args.a c.args.b c.args.p) in
+    let answer-is : asked ≡ voice_outcome c.voice_answer.result = let f = c.ranges in sym (simp (to_z-of_z, f.n, f.s, f.t, f.a, f.b, f.p) at c.voice_answer.ensures) in
+    let refused-is : asked ≡ refused c.in-Refused.number = answer-is ∙ ap voice_outcome c.in-Refused.is in
+    small-fits (voice-small _ _ refused-is)
+
+pub returns-in-Refused : goal.returns-in-Refused
+returns-in-Refused c =
+    let asked : Outcome Voice = voice_call (sums c.args.n c.args.s c.args.t c.args.a c.args.b c.args.p) in
+    let answer-is : asked ≡ voice_outcome c.voice_answer.result = let f = c.ranges in sym (simp (to_z-of_z, f.n, f.s, f.t, f.a, f.b, f.p) at c.voice_answer.ensures) in
+    let refused-is : asked ≡ refused c.in-Refused.number = answer-is ∙ ap voice_outcome c.in-Refused.is in
+    let e = refused-is in
+    let r = parts _ _ _ _ (refused-returns of_voice _ (voice_result c.args.kind.now c.args.level.now c.args.spread.now) _ (voice-small _ _ e) e) in
+    record { status = r.0; kind = r.1.0; level = r.1.1.0; spread = r.1.1.1 }
+
+pub returns-in-Empty : goal.returns-in-Empty
+returns-in-Empty c =
+    let asked : Outcome Voice = voice_call (sums c.args.n c.args.s c.args.t c.args.a c.args.b c.args.p) in
+    let answer-is : asked ≡ voice_outcome c.voice_answer.result = let f = c.ranges in sym (simp (to_z-of_z, f.n, f.s, f.t, f.a, f.b, f.p) at c.voice_answer.ensures) in
+    let voice-is : (v : declared.Voice) → c.in-Heard.voice ≡ v → asked ≡ answered (voice_of v) = λ v e. answer-is ∙ ap voice_outcome c.in-Heard.is ∙ ap (λ (x : declared.Voice). answered (voice_of x)) e in
+    let r = parts _ _ _ _ (none-returns of_voice _ (voice_result c.args.kind.now c.args.level.now c.args.spread.now) _ _ refl (voice-is _ c.in-Empty.is)) in
+    record { status = r.0; kind = r.1.0; level = r.1.1.0; spread = r.1.1.1 }
+
+pub returns-in-Steady : goal.returns-in-Steady
+unfolding of_bits
+returns-in-Steady c =
+    let asked : Outcome Voice = voice_call (sums c.args.n c.args.s c.args.t c.args.a c.args.b c.args.p) in
+    let answer-is : asked ≡ voice_outcome c.voice_answer.result = let f = c.ranges in sym (simp (to_z-of_z, f.n, f.s, f.t, f.a, f.b, f.p) at c.voice_answer.ensures) in
+    let voice-is : (v : declared.Voice) → c.in-Heard.voice ≡ v → asked ≡ answered (voice_of v) = λ v e. answer-is ∙ ap voice_outcome c.in-Heard.is ∙ ap (λ (x : declared.Voice). answered (voice_of x)) e in
+    let r = parts _ _ _ _ (value-returns of_voice _ (voice_result c.args.kind.now c.args.level.now c.args.spread.now) _ _ refl (voice-is _ c.in-Steady.is)) in
+    record { status = r.0; kind = r.1.0; level = r.1.1.0; spread = r.1.1.1 }
+
+pub returns-in-Grainy : goal.returns-in-Grainy
+returns-in-Grainy c =
+    let asked : Outcome Voice = voice_call (sums c.args.n c.args.s c.args.t c.args.a c.args.b c.args.p) in
+    let answer-is : asked ≡ voice_outcome c.voice_answer.result = let f = c.ranges in sym (simp (to_z-of_z, f.n, f.s, f.t, f.a, f.b, f.p) at c.voice_answer.ensures) in
+    let voice-is : (v : declared.Voice) → c.in-Heard.voice ≡ v → asked ≡ answered (voice_of v) = λ v e. answer-is ∙ ap voice_outcome c.in-Heard.is ∙ ap (λ (x : declared.Voice). answered (voice_of x)) e in
+    let r = parts _ _ _ _ (value-returns of_voice _ (voice_result c.args.kind.now c.args.level.now c.args.spread.now) _ _ refl (voice-is _ c.in-Grainy.is)) in
+    record { status = r.0; kind = r.1.0; level = r.1.1.0; spread = r.1.1.1 }

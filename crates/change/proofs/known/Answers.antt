@@ -1,0 +1,28 @@
+-- `change::known` meets its contract. Assumes nothing.
+use borrow.Author.Rules.{rules}
+use Prim.Native.Nat.{ℕ, ◌-◌, ◌≤◌, ◌<◌}
+use native.Mathlib.Omega.{arith}
+use native.Mathlib.Decide.{dec_lt}
+use mathlib.Core.Path.{◌≡◌, refl}
+use mathlib.Core.List.{List}
+use lib.IntN.{ℤ, pos}
+use lib.ListN.{length}
+use borrow.Author.Count.{below_none, below_more}
+use Rattle.numbers.specs.Wrap.{wrap}
+use Rattle.numbers.proofs.Wraps.{wrap-fits}
+use Rattle.numbers.proofs.Writes.{at, at-past}
+use Rattle.lines.specs.Lines.{Numbers}
+use Rattle.change.proofs.known.Goals as goal
+
+pub loop-k-preserved : goal.loop-k-preserved
+loop-k-preserved c = (omega arith, below_more _ _ c.loop-k.invariant.1 (wrap-fits _ (record { sfits = c.number-1.given })))
+
+pub returns : goal.returns
+returns c = numbers c.args.sums.now (λ k h. c.loop-k.invariant.1 k (omega arith))
+  where
+    numbers : (l : List ℤ) → ((k : ℕ) → k < length l → wrap (at l k) ≡ at l k) → Numbers l
+    numbers l h = record { whole = λ k. go k (dec_lt k (length l)) }
+      where
+        go : (k : ℕ) → Dec (k < length l) → wrap (at l k) ≡ at l k
+        go k (yes b) = h k b
+        go k (no b) = rw (at-past l k (omega arith)) (unfold wrap in refl)
