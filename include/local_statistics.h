@@ -34,9 +34,9 @@
  * the next, allocates nothing, and calls nothing of the C library but, where the compiler so
  * chose, memcpy, memmove and memset. Every call returns.
  *
- * STACK. The work areas of a call stand on the caller's stack. Measured on x86-64: ls_steady takes up
- * to 520 KiB of it, ls_smooth and ls_panel up to 380 KiB, ls_rows up to 100 KiB, the others up to
- * 24 KiB. Nothing is proved of it.
+ * STACK. The work areas of a call stand on the caller's stack. Measured on x86-64, as the older kit
+ * rattle-kit-5b-plain built it: ls_steady takes up to 520 KiB of it, ls_smooth and ls_panel up to
+ * 380 KiB, ls_rows up to 100 KiB, the others up to 24 KiB. Nothing is proved of it.
  *
  * THREADS. Any number of threads may call any functions at once, each with its own results and its
  * own areas to write to. Areas that are only read may be shared.
