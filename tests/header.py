@@ -33,13 +33,13 @@ C_TYPES = {
 # Where each constant of the header stands as a literal, `@` for its digits; a run of blanks matches any other.
 CONSTANTS = {
     "LS_OK": [(BINDING, "OK: i32 = @;")],
-    "LS_REFUSED_SIZE": [(CONDITIONS, "@ when not (sizeLegal z)"), (REFUSALS, " Size = @,")],
+    "LS_REFUSED_SIZE": [(CONDITIONS, "@ when not (size_legal z)"), (REFUSALS, " Size = @,")],
     "LS_REFUSED_PICTURE": [(CONDITIONS, "@ when not (eqb (length f) (cells z))"), (REFUSALS, " Picture = @,")],
-    "LS_REFUSED_WINDOW": [(CONDITIONS, "@ when not (windowLegal w)"), (REFUSALS, " Window = @,")],
-    "LS_REFUSED_SHIFT": [(CONDITIONS, "@ when not (shiftLegal d)"), (REFUSALS, " Shift = @,")],
+    "LS_REFUSED_WINDOW": [(CONDITIONS, "@ when not (window_legal w)"), (REFUSALS, " Window = @,")],
+    "LS_REFUSED_SHIFT": [(CONDITIONS, "@ when not (shift_legal d)"), (REFUSALS, " Shift = @,")],
     "LS_REFUSED_PLANE": [(CONDITIONS, "@ when ltb 5 p"), (REFUSALS, " Plane = @,")],
-    "LS_REFUSED_CELL": [(CONDITIONS, "@ when not (ltb i (z .rows)"), (REFUSALS, " Cell = @,")],
-    "LS_REFUSED_REQUEST": [(CONDITIONS, "@ when (ltb (z .rows) position"), (REFUSALS, " Request = @,")],
+    "LS_REFUSED_CELL": [(CONDITIONS, "@ when not (ltb i z.rows"), (REFUSALS, " Cell = @,")],
+    "LS_REFUSED_REQUEST": [(CONDITIONS, "@ when (ltb z.rows position"), (REFUSALS, " Request = @,")],
     "LS_REFUSED_AREA": [(CONDITIONS, "@ when not (eqb given wanted)"), (REFUSALS, " Area = @,")],
     "LS_REFUSED_SUMS": [(SIX_SUMS, "(@ when impossible z)"), (REFUSALS, " Sums = @,")],
     "LS_REFUSED_TEXT": [(PANEL, "framed z w none = refused @")],
@@ -49,20 +49,20 @@ CONSTANTS = {
     "LS_RECTANGLE": [(WINDOWS, "if shape == @ { return rectangle_legal("), (TYPES, "shape: @, first: a, second: b")],
     "LS_DIAMOND": [(WINDOWS, "if shape == @ { return diamond_legal("), (TYPES, "shape: @, first: r, second: 0")],
     "LS_HEXAGON": [(WINDOWS, "if shape == @ { return hexagon_legal("), (TYPES, "shape: @, first: k, second: h")],
-    "LS_PLANE_ONE": [(SIX_SUMS, " n = directSum (onPlane x @)"), (TYPES, "ONE: Plane = Plane(@)")],
-    "LS_PLANE_F": [(SIX_SUMS, " s = directSum (onPlane x @)"), (TYPES, "F: Plane = Plane(@)")],
-    "LS_PLANE_G": [(SIX_SUMS, " t = directSum (onPlane x @)"), (TYPES, "G: Plane = Plane(@)")],
-    "LS_PLANE_F_SQUARED": [(SIX_SUMS, " a = directSum (onPlane x @)"), (TYPES, "F_SQUARED: Plane = Plane(@)")],
-    "LS_PLANE_G_SQUARED": [(SIX_SUMS, " b = directSum (onPlane x @)"), (TYPES, "G_SQUARED: Plane = Plane(@)")],
-    "LS_PLANE_PRODUCT": [(SIX_SUMS, " p = directSum (onPlane x @)"), (TYPES, "PRODUCT: Plane = Plane(@)")],
+    "LS_PLANE_ONE": [(SIX_SUMS, " n = direct_sum (on_plane x @)"), (TYPES, "ONE: Plane = Plane(@)")],
+    "LS_PLANE_F": [(SIX_SUMS, " s = direct_sum (on_plane x @)"), (TYPES, "F: Plane = Plane(@)")],
+    "LS_PLANE_G": [(SIX_SUMS, " t = direct_sum (on_plane x @)"), (TYPES, "G: Plane = Plane(@)")],
+    "LS_PLANE_F_SQUARED": [(SIX_SUMS, " a = direct_sum (on_plane x @)"), (TYPES, "F_SQUARED: Plane = Plane(@)")],
+    "LS_PLANE_G_SQUARED": [(SIX_SUMS, " b = direct_sum (on_plane x @)"), (TYPES, "G_SQUARED: Plane = Plane(@)")],
+    "LS_PLANE_PRODUCT": [(SIX_SUMS, " p = direct_sum (on_plane x @)"), (TYPES, "PRODUCT: Plane = Plane(@)")],
     "LS_STEADY": [(REPLIES, "const STEADY: u32 = @;"), (BINDING, "const STEADY: u32 = @;")],
     "LS_GRAINY": [(REPLIES, "const GRAINY: u32 = @;")],
-    "LS_MAX_ROWS": [("crates/picture/specs/Size.antt", "leb (z .rows) @"), (TYPES, "MAX_ROWS: usize = @;")],
-    "LS_MAX_COLUMNS": [("crates/picture/specs/Size.antt", "leb (z .columns) @"), (TYPES, "MAX_COLUMNS: usize = @;")],
-    "LS_MAX_DOWN": [("crates/picture/specs/Picture.antt", "(pos @) (d .down)"), (TYPES, "MAX_DOWN: i32 = @;")],
-    "LS_MAX_RIGHT": [("crates/picture/specs/Picture.antt", "(pos @) (d .right)"), (TYPES, "MAX_RIGHT: i32 = @;")],
+    "LS_MAX_ROWS": [("crates/picture/specs/Size.antt", "leb z.rows @"), (TYPES, "MAX_ROWS: usize = @;")],
+    "LS_MAX_COLUMNS": [("crates/picture/specs/Size.antt", "leb z.columns @"), (TYPES, "MAX_COLUMNS: usize = @;")],
+    "LS_MAX_DOWN": [("crates/picture/specs/Picture.antt", "(pos @) d.down"), (TYPES, "MAX_DOWN: i32 = @;")],
+    "LS_MAX_RIGHT": [("crates/picture/specs/Picture.antt", "(pos @) d.right"), (TYPES, "MAX_RIGHT: i32 = @;")],
     "LS_MAX_WINDOW": [("crates/picture/specs/Window.antt", "(k +ℤ h) (pos @)"), (TYPES, "MAX_WINDOW: i32 = @;")],
-    "LS_MAX_CELLS": [(SIX_SUMS, "ltZ (pos @) (z .n)"), (TYPES, "MAX_CELLS: i64 = @;")],
+    "LS_MAX_CELLS": [(SIX_SUMS, "lt_z (pos @) z.n"), (TYPES, "MAX_CELLS: i64 = @;")],
     "LS_PANEL_MAX_BYTES": [(PANEL, "ltb @ (length text)"), (TYPES, "PANEL_MAX_BYTES: usize = @;")],
     "LS_PANEL_MAX_CELLS": [(PANEL, "leb (cells z) @"), (TYPES, "PANEL_MAX_CELLS: usize = @;")],
     "LS_PANEL_ROOM": [
@@ -116,9 +116,9 @@ def in_header(text):
 
 def in_source(text):
     text = re.sub(r"//.*$", "", text, flags=re.M)
-    found = re.findall(r'#\[no_mangle\]\s*pub extern "C" fn (\w+)\s*\(([^)]*)\)\s*->\s*(\w+)', text)
+    found = re.findall(r'#\[unsafe\(no_mangle\)\]\s*pub extern "C" fn (\w+)\s*\(([^)]*)\)\s*->\s*(\w+)', text)
     if len(found) != text.count('extern "C"') or len(found) != text.count("no_mangle"):
-        raise Unreadable("the source has an exported function that is not `#[no_mangle] pub extern \"C\" fn .. -> ..`")
+        raise Unreadable("the source has an exported function that is not `#[unsafe(no_mangle)] pub extern \"C\" fn .. -> ..`")
     functions = {}
     for name, parameters, returned in found:
         functions[name] = [c_type(returned)]
@@ -213,8 +213,8 @@ DAMAGES = [
     ("another status", HEADER, r"LS_FLAT \(-2\)", "LS_FLAT (-4)"),
     ("another limit", HEADER, r"LS_MAX_ROWS 256", "LS_MAX_ROWS 255"),
     ("a constant missing", HEADER, r"#define LS_GRAINY 2", ""),
-    ("a function missing", SOURCE, r'#\[no_mangle\]\s*pub extern "C" fn ls_steady', "fn ls_steady"),
-    ("a function not exported", SOURCE, r"#\[no_mangle\]\s*", ""),
+    ("a function missing", SOURCE, r'#\[unsafe\(no_mangle\)\]\s*pub extern "C" fn ls_steady', "fn ls_steady"),
+    ("a function not exported", SOURCE, r"#\[unsafe\(no_mangle\)\]\s*", ""),
     ("another width", SOURCE, r"table: &\[i64\]", "table: &[i32]"),
     ("a slice that is written", SOURCE, r"text: &\[u8\]", "text: &mut [u8]"),
     ("another status", REPLIES, r"EMPTY: i32 = -1", "EMPTY: i32 = -4"),
