@@ -1,3 +1,4 @@
 pub mod Voices
 pub mod Searching
 mod BlockRows
+mod Kept

@@ -29,12 +29,12 @@ returns-in-Refused c =
     let answer-is : asked ≡ sum_outcome c.direct_sum.result = let f = c.ranges in sym (simp (to_z-of_z, f.first, f.second, f.down, f.right) at c.direct_sum.ensures) in
     let refused-is : asked ≡ refused c.in-Refused.number = answer-is ∙ ap sum_outcome c.in-Refused.is in
     let e = refused-is in
-    record { status = (refused-returns with_value _ _ _ (direct-small _ _ _ _ e) e).0; sum = (refused-returns with_value _ _ _ (direct-small _ _ _ _ e) e).1 }
+    record { status = (refused-returns with_value _ c.args.sum.now _ (direct-small _ _ _ _ e) e).0; sum = (refused-returns with_value _ c.args.sum.now _ (direct-small _ _ _ _ e) e).1 }
 
 pub returns-in-Sum : goal.returns-in-Sum
 returns-in-Sum c =
     let asked : Outcome ℤ = direct_call (inputs (size c.args.rows c.args.columns) c.args.f.now c.args.g.now (window c.args.shape c.args.first c.args.second) (shift c.args.down c.args.right) c.args.plane) c.args.row c.args.column in
     let answer-is : asked ≡ sum_outcome c.direct_sum.result = let f = c.ranges in sym (simp (to_z-of_z, f.first, f.second, f.down, f.right) at c.direct_sum.ensures) in
     let value-fits : SFits w64 c.in-Sum.s = search rules in
-    let r = value-returns with_value _ _ _ _ refl (answer-is ∙ ap sum_outcome c.in-Sum.is) in
+    let r = value-returns with_value _ c.args.sum.now _ _ refl (answer-is ∙ ap sum_outcome c.in-Sum.is) in
     record { status = r.0; sum = to_z-of_z {w = w64} value-fits ∙ r.1 }

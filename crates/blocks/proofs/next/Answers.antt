@@ -1,0 +1,26 @@
+-- `blocks::next` meets its contract. Assumes nothing.
+use borrow.Author.Rules.{rules}
+use mathlib.Core.Path.{◌≡◌, ◌∙◌}
+use Prim.Native.Nat.{◌-◌, ◌*◌, ◌%◌, ◌≤◌}
+use native.Mathlib.Omega.{arith}
+use native.Mathlib.Nat.{mul-le-mul_right}
+use lib.ListN.{length, take, drop}
+use Rattle.numbers.proofs.Writes.{slice-length}
+use Rattle.picture.specs.Picture.{Inputs, inputs}
+use Rattle.picture.proofs.Refusals.{in-limits}
+use Rattle.blocks.specs.Blocks.{rows_in}
+use Rattle.blocks.proofs.RowSums.{block_made, row_within, row_first}
+use Rattle.blocks.proofs.next.Goals as goal
+
+pub returns : goal.returns
+returns c =
+    let given : Inputs = inputs c.args.size c.args.f.now c.args.g.now c.args.window c.args.shift c.args.plane in
+    let rows_of : c.high.result - c.args.i ≡ rows_in given c.args.i = rw c.high.ensures in
+    let few : (c.high.result - c.args.i) * c.args.size.columns ≤ 16 * c.args.size.columns = mul-le-mul_right c.args.size.columns (omega (arith, c.high.ensures)) in
+    let lent : length (take ((c.high.result - c.args.i) * c.args.size.columns - 0) (drop 0 c.args.block.now)) ≡ (c.high.result - c.args.i) * c.args.size.columns = slice-length 0 ((c.high.result - c.args.i) * c.args.size.columns) c.args.block.now (omega arith) (omega (arith, few, c.requires.room)) ∙ omega arith in
+    let m = c.many in
+    let i = c.args.i in
+    let start : i % 16 ≡ 0 = omega (arith, c.if-i-ne0.false) in
+    let part = m.new.out in
+    row_first given i _ _ c.requires.row start
+    (block_made given c.requires.inputs i (c.high.result - i) c.args.work.now m.new.work c.args.block.now part rows_of (c.requires.before.fresh start) m.ensures (omega (arith, few, c.requires.room)) (m.auto.out ∙ lent))

@@ -1,0 +1,40 @@
+-- `first_rows::rectangle::first` meets its contract. Assumes nothing.
+use borrow.Author.Rules.{rules}
+use mathlib.Core.Path.{◌≡◌, sym, ap, ◌∙◌}
+use Prim.Native.Nat.{ℕ, ◌-◌, ◌≤◌}
+use native.Mathlib.Omega.{arith}
+use lib.IntN.{ℤ}
+use lib.ListN.{length}
+use Rattle.numbers.proofs.Grids.{length-tabulate}
+use Rattle.picture.specs.Picture.{Source, source, plane_at}
+use Rattle.picture.proofs.Refusals.{in-limits}
+use Rattle.picture.proofs.Planes.{plane-bound, plane-past}
+use Rattle.steps.proofs.Columns.{columns_to, columns-none, columns-more, columns-all}
+use Rattle.first_rows.proofs.rectangle.first.Goals as goal
+
+pub high-end-requires : goal.high-end-requires
+high-end-requires c = omega (arith, (in-limits c.args.size c.requires.size).some_rows)
+
+pub loop-m-init : goal.loop-m-init
+loop-m-init c =
+    let pictures : Source = source c.args.size c.args.f.now c.args.g.now c.args.shift c.args.plane in
+    let plane : ℕ → ℕ → ℤ = plane_at pictures in
+    (omega arith, columns-none plane c.args.size.columns _ _ c.requires.room_work c.fill.ensures)
+
+pub loop-m-preserved : goal.loop-m-preserved
+loop-m-preserved c =
+    let pictures : Source = source c.args.size c.args.f.now c.args.g.now c.args.shift c.args.plane in
+    let plane : ℕ → ℕ → ℤ = plane_at pictures in
+    let l = c.loop-m in
+    (
+      omega arith,
+      columns-more plane c.args.size.columns l.m c.args.size.rows _ _ (λ j. plane-past pictures c.args.size.rows j (omega arith)) l.invariant.1 c.exchange.ensures,
+    )
+
+pub returns : goal.returns
+returns c =
+    let pictures : Source = source c.args.size c.args.f.now c.args.g.now c.args.shift c.args.plane in
+    let plane : ℕ → ℕ → ℤ = plane_at pictures in
+    let l = c.loop-m in
+    columns-all c.args.size plane (in-limits c.args.size c.requires.size) (plane-bound pictures c.requires.levels_f c.requires.levels_g) c.args.a l.m _
+    (omega (arith, c.loop-m-test.false, c.high-end.ensures)) l.invariant.1

@@ -1,0 +1,77 @@
+-- `mean_rows::every_row` meets its contract. Assumes nothing.
+use borrow.Author.Rules.{rules}
+use mathlib.Core.Path.{◌≡◌, refl, sym, ◌∙◌, subst}
+use Prim.Native.Nat.{ℕ, ◌+◌, ◌-◌, ◌*◌, ◌%◌, ◌≤◌}
+use native.Mathlib.Nat.{mod-lt}
+use native.Mathlib.Omega.{arith}
+use native.Mathlib.Numerals.{add-one}
+use lib.ListN.{length, take, drop}
+use Rattle.numbers.proofs.Lines.{Lines, lines_none, lines-all, line-end, line-next}
+use Rattle.numbers.proofs.Writes.{slice-length}
+use Rattle.picture.specs.Picture.{Inputs}
+use Rattle.picture.proofs.Refusals.{in-limits}
+use Rattle.statistics.specs.SixSums.{on_plane, six_sums}
+use Rattle.statistics.specs.Moments.{mean}
+use Rattle.smoothed.specs.Smoothing.{alone, smoothed}
+use Rattle.blocks.specs.Blocks.{Held}
+use Rattle.blocks.proofs.RowSums.{on-plane, held_none}
+use Rattle.mean_rows.proofs.RowMeans.{row_of, put-line, row-asked, row-mean}
+use Rattle.mean_rows.proofs.every_row.Goals as goal
+
+pub row_means-requires : goal.row_means-requires
+row_means-requires c =
+    let ends : c.loop-i.start + c.args.size.columns ≤ length c.loop-i.out = 
+        let l = c.loop-i in
+        omega (arith, l.invariant.1, l.invariant.6, c.requires.picture.full, line-end l.i c.args.size.rows c.args.size.columns c.loop-i-test.true) in
+    let room : length (take (c.loop-i.start + c.args.size.columns - c.loop-i.start) (drop c.loop-i.start c.loop-i.out)) ≡ c.args.size.columns = 
+        let lo = c.loop-i.start in
+        let columns = c.args.size.columns in
+        let span : lo + columns - lo ≡ columns = omega arith in
+        slice-length lo (lo + columns) c.loop-i.out (omega arith) ends ∙ span in
+    let counted = c.next in
+    let summed = c.next-in-loop-i in
+    let n = row_of (c.loop-i.i % 16) c.args.size.columns counted.new.block (counted.auto.block ∙ c.loop-i.invariant.4) (mod-lt c.loop-i.i (omega arith)) in
+    let m = row_of (c.loop-i.i % 16) c.args.size.columns summed.new.block (summed.auto.block ∙ c.loop-i.invariant.5) (mod-lt c.loop-i.i (omega arith)) in
+    row-asked c.args.size c.args.f.now c.args.window c.requires.picture.inputs c.loop-i.i c.loop-i-test.true _ _ _ n.size m.size room
+    (λ j h. n.each j h ∙ counted.ensures.sums j h) (λ j h. m.each j h ∙ summed.ensures.sums j h)
+
+pub loop-i-preserved : goal.loop-i-preserved
+loop-i-preserved c =
+    let given : Inputs = alone c.args.size c.args.f.now c.args.window in
+    let ends : c.loop-i.start + c.args.size.columns ≤ length c.loop-i.out = 
+        let l = c.loop-i in
+        omega (arith, l.invariant.1, l.invariant.6, c.requires.picture.full, line-end l.i c.args.size.rows c.args.size.columns c.loop-i-test.true) in
+    let room : length (take (c.loop-i.start + c.args.size.columns - c.loop-i.start) (drop c.loop-i.start c.loop-i.out)) ≡ c.args.size.columns = 
+        let lo = c.loop-i.start in
+        let columns = c.args.size.columns in
+        let span : lo + columns - lo ≡ columns = omega arith in
+        slice-length lo (lo + columns) c.loop-i.out (omega arith) ends ∙ span in
+    let l = c.loop-i in
+    let z = c.args.size in
+    let counted = c.next in
+    let summed = c.next-in-loop-i in
+    let n = row_of (l.i % 16) z.columns counted.new.block (counted.auto.block ∙ l.invariant.4) (mod-lt l.i (omega arith)) in
+    let m = row_of (l.i % 16) z.columns summed.new.block (summed.auto.block ∙ l.invariant.5) (mod-lt l.i (omega arith)) in
+    let row = c.row_means in
+    let i = l.i in (
+      put-line (λ i j. mean (six_sums given i j)) z.columns i l.start l.out row.new.out l.invariant.0 l.invariant.1 ends (row.auto.out ∙ room)
+          (row-mean z c.args.f.now c.args.window c.requires.picture.inputs i c.loop-i-test.true _ _ _ n.size m.size room (λ j h. n.each j h ∙ counted.ensures.sums j h) (λ j h. m.each j h ∙ summed.ensures.sums j h) row.new.out row.ensures),
+      omega (arith, l.invariant.1, line-next i z.columns),
+      counted.auto.work ∙ l.invariant.2,
+      summed.auto.work ∙ l.invariant.3,
+      counted.auto.block ∙ l.invariant.4,
+      summed.auto.block ∙ l.invariant.5,
+      c.out-1.given.1 ∙ l.invariant.6,
+      subst (λ (k : ℕ). Held (on_plane given 0) k counted.new.work counted.new.block) (sym (add-one i)) counted.ensures.next,
+      subst (λ (k : ℕ). Held (on_plane given 1) k summed.new.work summed.new.block) (sym (add-one i)) summed.ensures.next,
+      omega (arith, c.loop-i-test.true),
+    )
+
+pub returns : goal.returns
+unfolding smoothed
+returns c =
+    let given : Inputs = alone c.args.size c.args.f.now c.args.window in
+    let l = c.loop-i in
+    let z = c.args.size in
+    let e : l.i ≡ z.rows = omega (arith, l.invariant.9, c.loop-i-test.false) in
+    lines-all (λ i j. mean (six_sums given i j)) z.columns l.out z.rows (rw e at l.invariant.0) (l.invariant.6 ∙ c.requires.picture.full)

@@ -1,0 +1,25 @@
+-- What the search keeps from block to block. Assumes nothing.
+use mathlib.Core.Path.{◌≡◌}
+use mathlib.Core.List.{List}
+use Prim.Native.Nat.{ℕ, ◌-◌, ◌*◌, ◌%◌, ◌<◌}
+use lib.ListN.{length}
+use lib.IntN.{ℤ}
+use Rattle.picture.specs.Picture.{Inputs}
+use Rattle.statistics.specs.SixSums.{on_plane}
+use Rattle.smoothed.specs.Steady.{find_cell, first_steady}
+use Rattle.blocks.specs.Blocks.{ready}
+use Rattle.search.proofs.Searching.{steady_at}
+
+-- before row i: a block begins there, or no row is left
+pub record Before (x : Inputs) (counts totals squares n s a : List ℤ) (i : ℕ) : Type 0 where
+  pub same : find_cell (steady_at x) x.source.size.columns i (x.source.size.rows - i) ≡ first_steady x
+  pub start : i < x.source.size.rows → i % 16 ≡ 0
+  pub ready_counts : ready (on_plane x 0) i counts
+  pub ready_totals : ready (on_plane x 1) i totals
+  pub ready_squares : ready (on_plane x 3) i squares
+  pub room_counts : length counts ≡ x.source.size.columns
+  pub room_totals : length totals ≡ x.source.size.columns
+  pub room_squares : length squares ≡ x.source.size.columns
+  pub room_n : length n ≡ 16 * x.source.size.columns
+  pub room_s : length s ≡ 16 * x.source.size.columns
+  pub room_a : length a ≡ 16 * x.source.size.columns
