@@ -1,9 +1,12 @@
 // The program panel: a picture's text from standard input, its smoothed picture, or the line of a refusal, to standard output.
 #![tactic(auto)]
 
-ghost use Rattle.std.specs.Prelude.{◌≡◌, length};
+ghost use Rattle.std.specs.Prelude.{◌≡◌, ◌≤◌, ◌<◌, length, take, OnOk, IfOk, IfSome};
+ghost use Rattle.std.specs.Io.KnownBytes.{Consumes, IsAtEnd, Appends};
+ghost use Rattle.panel_language.specs.Panel.{panel};
 
-use libc::{STDIN_FILENO, STDOUT_FILENO};
+use std::io;
+use std::io::{Read, Write};
 
 // Room for the longest input that is taken, and for one byte more, which tells a longer input. The contract gives the length alone.
 fn input() -> [u8; 65537]
@@ -19,11 +22,36 @@ fn output() -> [u8; 28672]
     [0; 28672]
 }
 
-// Short reads and writes, as of a pipe, are gone on with until the input ends or its room is full, and until all is written.
-fn main() {
+// Reads until the input ends or `text` is full, and gives how many bytes it put at the front of `text`. A short read, as of a pipe, is gone
+// on with.
+fn read_full<R: Read>(from: &mut R, text: &mut [u8]) -> io::Result<usize>
+    ensures room { IfOk result (λ n. n ≤ length text.new) }
+    ensures bytes { IfOk result (λ n. Consumes (R.remaining from.old) (R.remaining from.new) (take n text.new)) }
+    ensures end { IfOk result (λ n. n < length text.new → IsAtEnd (R.remaining from.new)) }
+{
+    let mut n = 0;
+    while n < text.len() {
+        let more = from.read(&mut text[n..])?;
+        if more == 0 {
+            break;
+        }
+        n += more;
+    }
+    Ok(n)
+}
+
+// Where it is known what a reader has, the writer gets what panel prints of it, also where it is longer than the text that is read.
+fn run<R: Read, W: Write>(from: &mut R, to: &mut W) -> io::Result<()>
+    ensures { OnOk result (IfSome (R.remaining from.old) (λ text. Appends (W.contents to.old) (W.contents to.new) (panel text))) }
+{
     let mut text = input();
     let mut out = output();
-    let n = io::read_full(STDIN_FILENO, &mut text);
+    let n = read_full(from, &mut text)?;
     let count = panel_text::render(&text[..n], &mut out);
-    io::write_all(STDOUT_FILENO, &out[..count]);
+    to.write_all(&out[..count])
+}
+
+// A read or a write that fails ends the program with its error.
+fn main(rt: HostRuntime) -> io::Result<()> {
+    run(&mut rt.stdin(), &mut rt.stdout())
 }

@@ -3,6 +3,7 @@
 
 use rows::Moved;
 use smoothing::SteadyAnswer;
+use std::io;
 use trial_cases::faults::{Call, Faults};
 use trial_cases::{answers, faults};
 use trial_tools::tally::Tally;
@@ -231,15 +232,16 @@ fn by_number(number: u64) -> Tally {
 }
 
 // The line of each number from 1 to `last`.
-fn by_numbers(last: u64) {
+fn by_numbers(rt: &impl Print, last: u64) -> io::Result<()> {
     let mut n = 0u64;
     while n < last {
         n += 1;
-        tally::print_numbered(b"calls refused by ", n, by_number(n));
+        tally::print_numbered(rt, "calls refused by ", n, by_number(n))?;
     }
+    Ok(())
 }
 
-pub fn run() {
-    tally::print(b"calls taken", by_number(0));
-    by_numbers(8);
+pub fn run(rt: &impl Print) -> io::Result<()> {
+    tally::print(rt, "calls taken", by_number(0))?;
+    by_numbers(rt, 8)
 }

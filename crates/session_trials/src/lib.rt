@@ -4,6 +4,7 @@
 use rival::recurrence;
 use rival::recurrence::Begun;
 use rows::Moved;
+use std::io;
 use trial_cases::cases::Case;
 use trial_cases::{cases, places};
 use trial_tools::tally::Tally;
@@ -271,7 +272,7 @@ fn lists(trials: usize, fresh: bool) -> Tally {
     t
 }
 
-pub fn run() {
-    tally::print(b"rows of fresh sessions", lists(108, true));
-    tally::print(b"rows of foreign sessions", lists(216, false));
+pub fn run(rt: &impl Print) -> io::Result<()> {
+    tally::print(rt, "rows of fresh sessions", lists(108, true))?;
+    tally::print(rt, "rows of foreign sessions", lists(216, false))
 }

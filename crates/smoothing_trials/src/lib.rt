@@ -5,6 +5,7 @@ ghost use Rattle.std.specs.Prelude.{◌≡◌, length};
 
 use rival::moments;
 use smoothing::SteadyAnswer;
+use std::io;
 use trial_cases::cases::Case;
 use trial_cases::{answers, cases, places};
 use trial_tools::tally::Tally;
@@ -125,8 +126,8 @@ fn of_cases(trials: usize) -> Tallies {
     t
 }
 
-pub fn run() {
+pub fn run(rt: &impl Print) -> io::Result<()> {
     let t = of_cases(288);
-    tally::print(b"smoothed cells", t.means);
-    tally::print(b"steady searches", t.steady);
+    tally::print(rt, "smoothed cells", t.means)?;
+    tally::print(rt, "steady searches", t.steady)
 }

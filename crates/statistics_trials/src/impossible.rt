@@ -1,6 +1,7 @@
 // Sums that are impossible, which every statistic refuses by 9, and possible ones at the limits.
 use crate::{answers, six_sums};
 use statistics::Sums;
+use std::io;
 use trial_tools::tally;
 use trial_tools::tally::Tally;
 
@@ -88,7 +89,7 @@ fn all(from: usize, to: usize, number: u64) -> Tally {
     t
 }
 
-pub fn run() {
-    tally::print_numbered(b"calls refused by ", 9, all(0, 28, 9));
-    tally::print(b"statistics of sums at their limits", all(28, 36, 0));
+pub fn run(rt: &impl Print) -> io::Result<()> {
+    tally::print_numbered(rt, "calls refused by ", 9, all(0, 28, 9))?;
+    tally::print(rt, "statistics of sums at their limits", all(28, 36, 0))
 }

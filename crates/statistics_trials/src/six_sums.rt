@@ -2,6 +2,7 @@
 use crate::answers;
 use rival::moments as rivals;
 use statistics::Sums;
+use std::io;
 use trial_cases::cases::Case;
 use trial_cases::{cases, places};
 use trial_tools::tally::Tally;
@@ -226,8 +227,8 @@ fn widest(t: Tally) -> Tally {
     )
 }
 
-pub fn run() {
-    tally::print(b"named sums", all_named(13));
-    tally::print(b"sums of the largest windows", widest(all_wide(10)));
-    tally::print(b"sums of pictures", of_cases(360));
+pub fn run(rt: &impl Print) -> io::Result<()> {
+    tally::print(rt, "named sums", all_named(13))?;
+    tally::print(rt, "sums of the largest windows", widest(all_wide(10)))?;
+    tally::print(rt, "sums of pictures", of_cases(360))
 }

@@ -1,5 +1,6 @@
 // Direct sums of generated pictures beside the rival's.
 use picture::{Cell, SumAnswer};
+use std::io;
 use trial_cases::cases::Case;
 use trial_cases::{answers, cases, places};
 use trial_tools::tally::Tally;
@@ -61,6 +62,6 @@ fn of_cases(trials: usize, small: usize) -> Tally {
     t
 }
 
-pub fn run() {
-    tally::print(b"direct sums", of_cases(360, 288));
+pub fn run(rt: &impl Print) -> io::Result<()> {
+    tally::print(rt, "direct sums", of_cases(360, 288))
 }

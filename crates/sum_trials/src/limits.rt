@@ -1,5 +1,6 @@
 // The cases of document 01's list that are not starred: sizes and windows at their limits and just beyond.
 use crate::direct_sums;
+use std::io;
 use trial_cases::cases::Case;
 use trial_cases::{answers, cases};
 use trial_tools::tally::Tally;
@@ -92,6 +93,6 @@ fn all(limits: usize) -> Tally {
     t
 }
 
-pub fn run() {
-    tally::print(b"limits", all(23));
+pub fn run(rt: &impl Print) -> io::Result<()> {
+    tally::print(rt, "limits", all(23))
 }

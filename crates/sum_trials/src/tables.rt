@@ -1,6 +1,7 @@
 // Cumulative tables beside the rival's: their entries, readings of built tables, and readings of tables with foreign contents.
 use picture::Cell;
 use rival::corners;
+use std::io;
 use trial_cases::cases::Case;
 use trial_cases::{answers, cases, places};
 use trial_tools::tally::Tally;
@@ -118,9 +119,9 @@ fn of_cases(trials: usize, small: usize) -> Tallies {
     t
 }
 
-pub fn run() {
+pub fn run(rt: &impl Print) -> io::Result<()> {
     let t = of_cases(264, 216);
-    tally::print(b"table entries", t.entries);
-    tally::print(b"readings of built tables", t.built);
-    tally::print(b"readings of foreign tables", t.foreign);
+    tally::print(rt, "table entries", t.entries)?;
+    tally::print(rt, "readings of built tables", t.built)?;
+    tally::print(rt, "readings of foreign tables", t.foreign)
 }

@@ -1,5 +1,5 @@
 // What a group of trials has compared: how many things, how many of them differed, and a checksum of what the library gave.
-use libc::STDOUT_FILENO;
+use std::io;
 
 #[derive(Clone, Copy)]
 pub struct Tally {
@@ -64,24 +64,22 @@ fn sign(z: i64) -> u64 {
 }
 
 // The line of a group.
-pub fn print(name: &[u8], tally: Tally) {
-    io::write_all(STDOUT_FILENO, name);
-    print_counts(tally);
+pub fn print(rt: &impl Print, name: &str, tally: Tally) -> io::Result<()> {
+    print!(rt; "{name}")?;
+    print_counts(rt, tally)
 }
 
 // The line of a group that has a number.
-pub fn print_numbered(name: &[u8], number: u64, tally: Tally) {
-    io::write_all(STDOUT_FILENO, name);
-    io::print_decimal(STDOUT_FILENO, number);
-    print_counts(tally);
+pub fn print_numbered(rt: &impl Print, name: &str, number: u64, tally: Tally) -> io::Result<()> {
+    print!(rt; "{name}{number}")?;
+    print_counts(rt, tally)
 }
 
-fn print_counts(tally: Tally) {
-    io::write_all(STDOUT_FILENO, b": ");
-    io::print_decimal(STDOUT_FILENO, tally.compared);
-    io::write_all(STDOUT_FILENO, b" compared, ");
-    io::print_decimal(STDOUT_FILENO, tally.different);
-    io::write_all(STDOUT_FILENO, b" different, checksum ");
-    io::print_decimal(STDOUT_FILENO, tally.checksum);
-    io::write_all(STDOUT_FILENO, b"\n");
+fn print_counts(rt: &impl Print, tally: Tally) -> io::Result<()> {
+    let Tally {
+        compared,
+        different,
+        checksum,
+    } = tally;
+    println!(rt; ": {compared} compared, {different} different, checksum {checksum}")
 }

@@ -4,14 +4,16 @@
 
 mod texts; // texts.rt: panel's texts
 
-fn main() {
-    sum_trials::limits::run();
-    sum_trials::direct_sums::run();
-    sum_trials::tables::run();
-    smoothing_trials::run();
-    statistics_trials::six_sums::run();
-    session_trials::run();
-    refusal_trials::run();
-    statistics_trials::impossible::run();
-    texts::run();
+use std::io;
+
+fn main(rt: HostRuntime) -> io::Result<()> {
+    sum_trials::limits::run(&rt)?;
+    sum_trials::direct_sums::run(&rt)?;
+    sum_trials::tables::run(&rt)?;
+    smoothing_trials::run(&rt)?;
+    statistics_trials::six_sums::run(&rt)?;
+    session_trials::run(&rt)?;
+    refusal_trials::run(&rt)?;
+    statistics_trials::impossible::run(&rt)?;
+    texts::run(&rt)
 }

@@ -1,4 +1,5 @@
 // Panel's texts: taken ones, and every kind of refused one, beside outputs written out.
+use std::io;
 use trial_tools::tally::Tally;
 use trial_tools::{areas, tally};
 
@@ -158,12 +159,13 @@ fn long(front: [u8; 11], expected: &[u8], t: Tally) -> Tally {
     shown(&text, b"refused 10\n", seen)
 }
 
-pub fn run() {
+pub fn run(rt: &impl Print) -> io::Result<()> {
     let sized = refused_sizes(taken(tally::fresh()));
     let short = refused_windows(refused_numbers(refused_counts(sized)));
     let accepted = long(*b"1 1 1 0 0 5", b"5\n", short);
     tally::print(
-        b"panel texts",
+        rt,
+        "panel texts",
         long(*b"257 1 1 0 0", b"refused 1\n", accepted),
-    );
+    )
 }
