@@ -81,12 +81,12 @@ loop-i-preserved c =
       ready_counts = ready-behind given c.requires.inputs l.i m c.loop-i-test.true count-is 0 _ _ counted;
       ready_totals = ready-behind given c.requires.inputs l.i m c.loop-i-test.true count-is 1 _ _ summed;
       ready_squares = ready-behind given c.requires.inputs l.i m c.loop-i-test.true count-is 3 _ _ squared;
-      room_counts = c.next.kept.1.1.1.1.1.1.1.0 ∙ l.invariant.room_counts;
-      room_totals = c.next-in-loop-i.kept.1.1.1.1.1.1.1.0 ∙ l.invariant.room_totals;
-      room_squares = c.next-in-loop-i-2.kept.1.1.1.1.1.1.1.0 ∙ l.invariant.room_squares;
-      room_n = c.next.kept.1.1.1.1.1.1.1.1.0 ∙ l.invariant.room_n;
-      room_s = c.next-in-loop-i.kept.1.1.1.1.1.1.1.1.0 ∙ l.invariant.room_s;
-      room_a = c.next-in-loop-i-2.kept.1.1.1.1.1.1.1.1.0 ∙ l.invariant.room_a;
+      room_counts = c.next.auto.work ∙ l.invariant.room_counts;
+      room_totals = c.next-in-loop-i.auto.work ∙ l.invariant.room_totals;
+      room_squares = c.next-in-loop-i-2.auto.work ∙ l.invariant.room_squares;
+      room_n = c.next.auto.block ∙ l.invariant.room_n;
+      room_s = c.next-in-loop-i.auto.block ∙ l.invariant.room_s;
+      room_a = c.next-in-loop-i-2.auto.block ∙ l.invariant.room_a;
     }
 
 pub returns : goal.returns
