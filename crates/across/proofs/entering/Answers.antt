@@ -1,14 +1,13 @@
 -- `across::entering` meets its contract. Assumes nothing.
-use borrow.Author.Rules.{rules}
 use mathlib.Core.Path.{◌≡◌, refl, ◌∙◌}
-use Prim.Native.Nat.{◌+◌, ◌-◌, ◌≤◌}
+use Prim.Native.Nat.{◌+◌}
 use native.Mathlib.Omega.{arith}
 use mir.Syntax.{w64}
 use mir.Val.{SFits, to_z, of_z}
 use mir.Facts.{to_z-of_z}
 use Rattle.numbers.proofs.Writes.{at}
-use Rattle.across.specs.Across.{neighbour_sum, range_sum, Written}
-use Rattle.across.proofs.Ranges.{range-enter, range_at, range-near, written_none, written-more, written-upto}
+use Rattle.across.specs.Across.{range_sum}
+use Rattle.across.proofs.Ranges.{range-enter, range_at, range-near, written-more}
 use Rattle.across.proofs.entering.Goals as goal
 
 pub loop-j-preserved : goal.loop-j-preserved

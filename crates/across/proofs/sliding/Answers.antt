@@ -1,7 +1,6 @@
 -- `across::sliding` meets its contract. Assumes nothing.
-use borrow.Author.Rules.{rules}
 use mathlib.Core.Path.{◌≡◌, ap, ◌∙◌}
-use Prim.Native.Nat.{◌+◌, ◌-◌, ◌≤◌}
+use Prim.Native.Nat.{◌+◌, ◌-◌}
 use native.Mathlib.Omega.{arith}
 use lib.IntN.{ℤ, ◌+ℤ◌, ◌-ℤ◌}
 use mir.Syntax.{w64}
@@ -9,8 +8,8 @@ use mir.Val.{SFits, to_z, of_z}
 use mir.Facts.{to_z-of_z}
 use Rattle.numbers.specs.Wrap.{wrap}
 use Rattle.numbers.proofs.Writes.{at}
-use Rattle.across.specs.Across.{neighbour_sum, range_sum, Written}
-use Rattle.across.proofs.Ranges.{range-slide, range_at, range-near, written_none, written-more, written-upto}
+use Rattle.across.specs.Across.{range_sum}
+use Rattle.across.proofs.Ranges.{range-slide, range_at, range-near, written-more}
 use Rattle.across.proofs.sliding.Goals as goal
 
 pub loop-j-preserved : goal.loop-j-preserved

@@ -1,14 +1,11 @@
 -- `across::total` meets its contract. Assumes nothing.
-use borrow.Author.Rules.{rules}
-use mathlib.Core.Path.{◌≡◌, refl, ◌∙◌}
-use Prim.Native.Nat.{◌-◌, ◌≤◌}
+use mathlib.Core.Path.{◌∙◌}
 use native.Mathlib.Omega.{arith}
 use mir.Syntax.{w64}
 use mir.Val.{SFits, to_z}
 use mir.Facts.{to_z-of_z}
 use Rattle.numbers.proofs.Writes.{at}
-use Rattle.across.specs.Across.{range_sum}
-use Rattle.across.proofs.Ranges.{range_none, range-enter, range_at}
+use Rattle.across.proofs.Ranges.{range_none, range-enter}
 use Rattle.across.proofs.total.Goals as goal
 
 pub loop-k-init : goal.loop-k-init

@@ -1,10 +1,7 @@
 -- `advance::by_edges` meets its contract. Assumes nothing.
-use borrow.Author.Rules.{rules}
 use mathlib.Core.Path.{◌≡◌, refl, sym, ◌∙◌, ap, subst}
-use mathlib.Core.List.{List}
-use Prim.Native.Nat.{ℕ, suc, ◌+◌, ◌-◌, ◌*◌, ◌≤◌}
+use Prim.Native.Nat.{ℕ, ◌-◌, ◌≤◌}
 use native.Mathlib.Omega.{arith}
-use lib.IntN.{ℤ}
 use lib.ListN.{length}
 use borrow.Rule.Slice.PartMut.{put_mid}
 use Rattle.numbers.proofs.Lines.{line-end}
@@ -13,7 +10,6 @@ use Rattle.picture.specs.Window.{shape_of}
 use Rattle.picture.specs.Picture.{source, plane_at}
 use Rattle.session.specs.Rows.{strip, Advanced, output_row}
 use Rattle.session.proofs.Strips.{two-parts, first-and-rest}
-use Rattle.kept_slopes.proofs.Advances.{one_less}
 use Rattle.advance.proofs.by_edges.Goals as goal
 
 pub returns-then-position-eq0 : goal.returns-then-position-eq0

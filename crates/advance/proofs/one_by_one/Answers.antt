@@ -1,7 +1,6 @@
 -- `advance::one_by_one` meets its contract. Assumes nothing.
-use borrow.Author.Rules.{rules}
 use mathlib.Core.Path.{◌≡◌, refl, sym, ap, ◌∙◌}
-use Prim.Native.Nat.{ℕ, ◌+◌, ◌-◌, ◌*◌, ◌≤◌}
+use Prim.Native.Nat.{ℕ, ◌+◌, ◌-◌, ◌≤◌}
 use native.Mathlib.Omega.{arith}
 use lib.IntN.{ℤ}
 use lib.ListN.{length}
@@ -9,9 +8,8 @@ use Rattle.numbers.proofs.Lines.{line-end}
 use Rattle.numbers.proofs.Writes.{slice-length}
 use Rattle.picture.specs.Window.{shape_of}
 use Rattle.picture.specs.Picture.{source, plane_at}
-use Rattle.picture.proofs.Refusals.{in-limits}
 use Rattle.session.specs.Rows.{output_row}
-use Rattle.session.proofs.Strips.{Partly, partly_none, partly_more, partly-all}
+use Rattle.session.proofs.Strips.{partly_none, partly_more}
 use Rattle.advance.proofs.one_by_one.Goals as goal
 
 pub loop-k-init : goal.loop-k-init
@@ -22,9 +20,9 @@ loop-k-init c =
 pub loop-k-preserved : goal.loop-k-preserved
 loop-k-preserved c =
     let plane : ℕ → ℕ → ℤ = plane_at (source c.args.size c.args.f.now c.args.g.now c.args.shift c.args.plane) in
-    let ends : c.loop-k.start + c.args.size.columns ≤ length c.loop-k.out = 
-        let l = c.loop-k in
-        omega (arith, l.invariant.1, l.invariant.2, c.requires.room, line-end l.k c.args.n c.args.size.columns c.loop-k-test.true) in
+    let ends : c.loop-k.start + c.args.size.columns ≤ length c.loop-k.out =
+    let l = c.loop-k in
+    omega (arith, l.invariant.1, l.invariant.2, c.requires.room, line-end l.k c.args.n c.args.size.columns c.loop-k-test.true) in
     let l = c.loop-k in
     let z = c.args.size in
     let call = c.next in

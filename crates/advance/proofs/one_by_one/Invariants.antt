@@ -1,17 +1,10 @@
 -- What the loops of `advance::one_by_one` keep. Assumes nothing.
-use borrow.Author.Rules.{rules}
-use mathlib.Core.Path.{◌≡◌, refl, sym, ap, ◌∙◌}
-use Prim.Native.Nat.{ℕ, ◌+◌, ◌-◌, ◌*◌, ◌≤◌}
-use native.Mathlib.Omega.{arith}
-use lib.IntN.{ℤ}
+use mathlib.Core.Path.{◌≡◌}
+use Prim.Native.Nat.{◌-◌, ◌*◌, ◌≤◌}
 use lib.ListN.{length}
-use Rattle.numbers.proofs.Lines.{line-end}
-use Rattle.numbers.proofs.Writes.{slice-length}
 use Rattle.picture.specs.Window.{shape_of}
 use Rattle.picture.specs.Picture.{source, plane_at}
-use Rattle.picture.proofs.Refusals.{in-limits}
-use Rattle.session.specs.Rows.{output_row}
-use Rattle.session.proofs.Strips.{Partly, partly_none, partly_more, partly-all}
+use Rattle.session.proofs.Strips.{Partly}
 use Rattle.advance.proofs.one_by_one.Given as goal
 
 abbrev pub invariant-loop-k : goal.invariant-loop-k

@@ -1,14 +1,10 @@
 -- `areas::copy` meets its contract. Assumes nothing.
-use borrow.Author.Rules.{rules}
-use mathlib.Core.Path.{◌≡◌, refl, sym, ap, ◌∙◌}
-use Prim.Native.Nat.{ℕ, ◌-◌}
+use mathlib.Core.Path.{refl, sym, ap, ◌∙◌}
+use Prim.Native.Nat.{ℕ}
 use native.Mathlib.Omega.{arith}
 use lib.ListN.{length}
-use mir.Facts.{to_z-of_z}
-use mir.Syntax.{w64}
-use mir.Val.{SFits}
 use Rattle.numbers.specs.Grid.{tabulate}
-use Rattle.numbers.proofs.Writes.{at, is-tabulate, Upto, upto-none, upto-more, upto_all}
+use Rattle.numbers.proofs.Writes.{at, is-tabulate, upto_all}
 use Rattle.areas.proofs.copy.Goals as goal
 
 pub returns : goal.returns

@@ -1,14 +1,7 @@
 -- What the loops of `areas::copy` keep. Assumes nothing.
-use borrow.Author.Rules.{rules}
-use mathlib.Core.Path.{◌≡◌, refl, sym, ap, ◌∙◌}
-use Prim.Native.Nat.{ℕ, ◌-◌}
-use native.Mathlib.Omega.{arith}
+use Prim.Native.Nat.{◌-◌}
 use lib.ListN.{length}
-use mir.Facts.{to_z-of_z}
-use mir.Syntax.{w64}
-use mir.Val.{SFits}
-use Rattle.numbers.specs.Grid.{tabulate}
-use Rattle.numbers.proofs.Writes.{at, is-tabulate, Upto, upto-none, upto-more, upto_all}
+use Rattle.numbers.proofs.Writes.{at, Upto}
 use Rattle.areas.proofs.copy.Given as goal
 
 abbrev pub invariant-loop-j : goal.invariant-loop-j

@@ -1,6 +1,5 @@
 -- `areas::output` meets its contract. Assumes nothing.
-use borrow.Author.Rules.{rules}
-use mathlib.Core.Path.{◌≡◌, sym, ◌∙◌}
+use mathlib.Core.Path.{sym, ◌∙◌}
 use Rattle.picture.specs.Window.{shape_of}
 use Rattle.session.proofs.Strips.{output-slanted}
 use Rattle.areas.proofs.Shapes.{output-rectangle}

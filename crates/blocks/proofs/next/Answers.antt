@@ -1,5 +1,4 @@
 -- `blocks::next` meets its contract. Assumes nothing.
-use borrow.Author.Rules.{rules}
 use mathlib.Core.Path.{◌≡◌, ◌∙◌}
 use Prim.Native.Nat.{◌-◌, ◌*◌, ◌%◌, ◌≤◌}
 use native.Mathlib.Omega.{arith}
@@ -7,9 +6,8 @@ use native.Mathlib.Nat.{mul-le-mul_right}
 use lib.ListN.{length, take, drop}
 use Rattle.numbers.proofs.Writes.{slice-length}
 use Rattle.picture.specs.Picture.{Inputs, inputs}
-use Rattle.picture.proofs.Refusals.{in-limits}
 use Rattle.blocks.specs.Blocks.{rows_in}
-use Rattle.blocks.proofs.RowSums.{block_made, row_within, row_first}
+use Rattle.blocks.proofs.RowSums.{block_made, row_first}
 use Rattle.blocks.proofs.next.Goals as goal
 
 pub returns : goal.returns

@@ -1,5 +1,4 @@
 -- `c_table::ls_build` meets its contract. Assumes nothing.
-use borrow.Author.Rules.{rules}
 use mathlib.Core.Path.{◌≡◌, refl, sym, ap, ◌∙◌}
 use mir.Facts.{to_z-of_z}
 use Rattle.picture.specs.Refusal.{Filling, refused}

@@ -1,5 +1,4 @@
 -- `c_voice::ls_voice` meets its contract. Assumes nothing.
-use borrow.Author.Rules.{rules}
 use mathlib.Core.Path.{◌≡◌, refl, sym, ap, ◌∙◌}
 use lib.IntN.{ℤ}
 use lib.Ieee.{of_bits}

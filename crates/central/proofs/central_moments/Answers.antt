@@ -140,12 +140,12 @@ returns-then-not-at_most c =
     let f-fits : SFits w64 c.covariance-f.result = record { sfits = c.covariance-f.type_inv } in
     let g-fits : SFits w64 c.covariance-g.result = record { sfits = c.covariance-g.type_inv } in
     let c-fits : SFits w64 c.covariance-c.result = record { sfits = c.covariance-c.type_inv } in
-    let test-is : c.at_most.result ≡ within c.args.z = 
-        let size = (simp (to_z-of_z, c-fits) at c.magnitude-size.ensures) ∙ ap nat_abs c-is in
-        let product = simp (to_z-of_z, f-fits, g-fits) at c.multiply-2.ensures in
-        c.at_most.ensures
-        ∙ ap₂ leb (c.multiply.ensures ∙ ap (λ (n : ℕ). n * n) size)
-        (product ∙ ap₂ (λ (x y : ℤ). nat_abs x * nat_abs y) f-is g-is) in
+    let test-is : c.at_most.result ≡ within c.args.z =
+    let size = (simp (to_z-of_z, c-fits) at c.magnitude-size.ensures) ∙ ap nat_abs c-is in
+    let product = simp (to_z-of_z, f-fits, g-fits) at c.multiply-2.ensures in
+    c.at_most.ensures
+    ∙ ap₂ leb (c.multiply.ensures ∙ ap (λ (n : ℕ). n * n) size)
+    (product ∙ ap₂ (λ (x y : ℤ). nat_abs x * nat_abs y) f-is g-is) in
     refused-c c.args.z (sym test-is ∙ not-true _ (ap not c.if-not-at_most.true))
 
 pub returns-then-count-eq0 : goal.returns-then-count-eq0
@@ -166,12 +166,12 @@ returns-then-count-eq0 c =
     let c-fits : SFits w64 c.covariance-c.result = record { sfits = c.covariance-c.type_inv } in
     let f-whole : lt_z c.covariance-f.result (pos 0) ≡ false = simp (to_z-of_z, f-fits) at c.if-f-lt0.false in
     let g-whole : lt_z c.covariance-g.result (pos 0) ≡ false = simp (to_z-of_z, g-fits) at c.if-g-lt0.false in
-    let test-is : c.at_most.result ≡ within c.args.z = 
-        let size = (simp (to_z-of_z, c-fits) at c.magnitude-size.ensures) ∙ ap nat_abs c-is in
-        let product = simp (to_z-of_z, f-fits, g-fits) at c.multiply-2.ensures in
-        c.at_most.ensures
-        ∙ ap₂ leb (c.multiply.ensures ∙ ap (λ (n : ℕ). n * n) size)
-        (product ∙ ap₂ (λ (x y : ℤ). nat_abs x * nat_abs y) f-is g-is) in
+    let test-is : c.at_most.result ≡ within c.args.z =
+    let size = (simp (to_z-of_z, c-fits) at c.magnitude-size.ensures) ∙ ap nat_abs c-is in
+    let product = simp (to_z-of_z, f-fits, g-fits) at c.multiply-2.ensures in
+    c.at_most.ensures
+    ∙ ap₂ leb (c.multiply.ensures ∙ ap (λ (n : ℕ). n * n) size)
+    (product ∙ ap₂ (λ (x y : ℤ). nat_abs x * nat_abs y) f-is g-is) in
     let sums : Sums = c.args.z in
     let possible : Possible sums = possible-when sums _ _ f-is g-is bounded f-whole g-whole (sym test-is ∙ not-false _ (ap not c.if-not-at_most.false)) in
     let count-is : c.magnitude-count.result ≡ count sums = simp (to_z-of_z, fits-n) at c.magnitude-count.ensures in
@@ -195,12 +195,12 @@ returns c =
     let c-fits : SFits w64 c.covariance-c.result = record { sfits = c.covariance-c.type_inv } in
     let f-whole : lt_z c.covariance-f.result (pos 0) ≡ false = simp (to_z-of_z, f-fits) at c.if-f-lt0.false in
     let g-whole : lt_z c.covariance-g.result (pos 0) ≡ false = simp (to_z-of_z, g-fits) at c.if-g-lt0.false in
-    let test-is : c.at_most.result ≡ within c.args.z = 
-        let size = (simp (to_z-of_z, c-fits) at c.magnitude-size.ensures) ∙ ap nat_abs c-is in
-        let product = simp (to_z-of_z, f-fits, g-fits) at c.multiply-2.ensures in
-        c.at_most.ensures
-        ∙ ap₂ leb (c.multiply.ensures ∙ ap (λ (n : ℕ). n * n) size)
-        (product ∙ ap₂ (λ (x y : ℤ). nat_abs x * nat_abs y) f-is g-is) in
+    let test-is : c.at_most.result ≡ within c.args.z =
+    let size = (simp (to_z-of_z, c-fits) at c.magnitude-size.ensures) ∙ ap nat_abs c-is in
+    let product = simp (to_z-of_z, f-fits, g-fits) at c.multiply-2.ensures in
+    c.at_most.ensures
+    ∙ ap₂ leb (c.multiply.ensures ∙ ap (λ (n : ℕ). n * n) size)
+    (product ∙ ap₂ (λ (x y : ℤ). nat_abs x * nat_abs y) f-is g-is) in
     let sums : Sums = c.args.z in
     let possible : Possible sums = possible-when sums _ _ f-is g-is bounded f-whole g-whole (sym test-is ∙ not-false _ (ap not c.if-not-at_most.false)) in
     let count-is : c.magnitude-count.result ≡ count sums = simp (to_z-of_z, fits-n) at c.magnitude-count.ensures in

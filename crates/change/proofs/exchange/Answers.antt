@@ -1,13 +1,12 @@
 -- `change::exchange` meets its contract. Assumes nothing.
-use borrow.Author.Rules.{rules}
-use mathlib.Core.Path.{◌≡◌, sym, ◌∙◌}
+use mathlib.Core.Path.{◌∙◌}
 use Prim.Native.Nat.{ℕ, ◌-◌, ◌≤◌}
 use native.Mathlib.Omega.{arith}
 use lib.ListN.{length}
 use mir.Facts.{to_z-of_z}
 use mir.Syntax.{w32}
 use mir.Val.{SFits}
-use Rattle.numbers.proofs.Writes.{slice-length, part_length}
+use Rattle.numbers.proofs.Writes.{slice-length}
 use Rattle.overlaps.specs.declared.Overlap.{Overlap}
 use Rattle.picture.specs.Picture.{Source, source}
 use Rattle.overlaps.specs.Overlaps.{Overlapping}
@@ -21,12 +20,12 @@ pub exchange_lines-requires : goal.exchange_lines-requires
 exchange_lines-requires c =
     let counting : Overlap = c.overlap_of-counting.result in
     let along : Overlap = c.overlap_of-along.result in
-    let down-overlaps : Overlapping c.args.size.rows c.args.shift.down counting = 
-        let f : SFits w32 c.args.shift.down = record { sfits = c.struct_told-1.given.0.1 } in
-        simp (to_z-of_z, f) at c.overlap_of-counting.ensures in
-    let right-overlaps : Overlapping c.args.size.columns c.args.shift.right along = 
-        let f : SFits w32 c.args.shift.right = record { sfits = c.struct_told-1.given.1.0.1 } in
-        simp (to_z-of_z, f) at c.overlap_of-along.ensures in
+    let down-overlaps : Overlapping c.args.size.rows c.args.shift.down counting =
+    let f : SFits w32 c.args.shift.down = record { sfits = c.struct_told-1.given.0.1 } in
+    simp (to_z-of_z, f) at c.overlap_of-counting.ensures in
+    let right-overlaps : Overlapping c.args.size.columns c.args.shift.right along =
+    let f : SFits w32 c.args.shift.right = record { sfits = c.struct_told-1.given.1.0.1 } in
+    simp (to_z-of_z, f) at c.overlap_of-along.ensures in
     let few : along.end ≤ 1024 = omega (arith, right-overlaps.within, (in-limits c.args.size c.requires.size).few_columns) in
     let two = c in
     let s = c in
@@ -46,12 +45,12 @@ returns c =
     let pictures : Source = source c.args.size c.args.f.now c.args.g.now c.args.shift c.args.plane in
     let counting : Overlap = c.overlap_of-counting.result in
     let along : Overlap = c.overlap_of-along.result in
-    let down-overlaps : Overlapping c.args.size.rows c.args.shift.down counting = 
-        let f : SFits w32 c.args.shift.down = record { sfits = c.struct_told-1.given.0.1 } in
-        simp (to_z-of_z, f) at c.overlap_of-counting.ensures in
-    let right-overlaps : Overlapping c.args.size.columns c.args.shift.right along = 
-        let f : SFits w32 c.args.shift.right = record { sfits = c.struct_told-1.given.1.0.1 } in
-        simp (to_z-of_z, f) at c.overlap_of-along.ensures in
+    let down-overlaps : Overlapping c.args.size.rows c.args.shift.down counting =
+    let f : SFits w32 c.args.shift.down = record { sfits = c.struct_told-1.given.0.1 } in
+    simp (to_z-of_z, f) at c.overlap_of-counting.ensures in
+    let right-overlaps : Overlapping c.args.size.columns c.args.shift.right along =
+    let f : SFits w32 c.args.shift.right = record { sfits = c.struct_told-1.given.1.0.1 } in
+    simp (to_z-of_z, f) at c.overlap_of-along.ensures in
     let two = c in
     let s = c in
     let o = right-overlaps in

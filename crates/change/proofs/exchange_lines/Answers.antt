@@ -1,11 +1,10 @@
 -- `change::exchange_lines` meets its contract. Assumes nothing.
-use borrow.Author.Rules.{rules}
-use mathlib.Core.Path.{◌≡◌, sym, ◌∙◌}
-use Prim.Native.Nat.{ℕ, ◌+◌, ◌-◌, ◌≤◌}
+use mathlib.Core.Path.{◌≡◌, ◌∙◌}
+use Prim.Native.Nat.{ℕ, ◌+◌, ◌-◌}
 use native.Mathlib.Omega.{arith}
 use lib.ListN.{length}
 use lib.Seq.{length-take-le}
-use Rattle.numbers.proofs.Writes.{at, slice-length}
+use Rattle.numbers.proofs.Writes.{slice-length}
 use Rattle.lines.proofs.Exchanges.{zeros-at, both-lines, first-line, second-line, no_line}
 use Rattle.change.proofs.exchange_lines.Goals as goal
 

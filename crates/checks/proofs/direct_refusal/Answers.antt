@@ -1,5 +1,4 @@
 -- `checks::direct_refusal` meets its contract. Assumes nothing.
-use borrow.Author.Rules.{rules}
 use mathlib.Core.Path.{sym, ◌∙◌}
 use Rattle.picture.proofs.Refusals.{number-none, number-stop, number-pass, number-before, number-after}
 use Rattle.std.proofs.Common.{ap, not}

@@ -1,10 +1,8 @@
 -- `checks::inputs_refusal` meets its contract. Assumes nothing.
-use borrow.Author.Rules.{rules}
 use mathlib.Core.Path.{sym, ◌∙◌}
 use borrow.Author.Tests.{le-ltb}
 use lib.Dec.{lt→ltb}
 use Rattle.picture.proofs.Refusals.{number-none, number-stop, number-pass, number-stop-on, number-pass-on, number-before, number-after}
-use Rattle.picture.specs.Conditions.{picture_checks}
 use Rattle.std.proofs.Common.{ap, not}
 use Rattle.checks.proofs.inputs_refusal.Goals as goal
 

@@ -1,6 +1,4 @@
 -- `checks::pictures_refusal` meets its contract. Assumes nothing.
-use borrow.Author.Rules.{rules}
-use Rattle.numbers.proofs.Tests.{holds_of}
 use Rattle.picture.proofs.Refusals.{number-none, number-stop, number-pass}
 use Rattle.std.proofs.Common.{ap, not}
 use Rattle.checks.proofs.pictures_refusal.Goals as goal

@@ -24,16 +24,16 @@ last_before-column-requires c = omega (arith, (in-limits _ c.requires.legal).som
 
 pub offset_bounds-table-row : goal.offset_bounds-table-row
 offset_bounds-table-row c =
-    let place : c.last_before-row.result * c.args.size.columns + c.last_before-column.result < length c.args.table.now = 
-        let s = c in
-        corner-place s.args.size s.args.table.now s.args.x s.args.y _ _ s.requires c.last_before-row.ensures c.last_before-column.ensures in
+    let place : c.last_before-row.result * c.args.size.columns + c.last_before-column.result < length c.args.table.now =
+    let s = c in
+    corner-place s.args.size s.args.table.now s.args.x s.args.y _ _ s.requires c.last_before-row.ensures c.last_before-column.ensures in
     omega (arith, place)
 
 pub bounds-table-row : goal.bounds-table-row
 bounds-table-row c =
-    let place : c.last_before-row.result * c.args.size.columns + c.last_before-column.result < length c.args.table.now = 
-        let s = c in
-        corner-place s.args.size s.args.table.now s.args.x s.args.y _ _ s.requires c.last_before-row.ensures c.last_before-column.ensures in
+    let place : c.last_before-row.result * c.args.size.columns + c.last_before-column.result < length c.args.table.now =
+    let s = c in
+    corner-place s.args.size s.args.table.now s.args.x s.args.y _ _ s.requires c.last_before-row.ensures c.last_before-column.ensures in
     place
 
 pub returns : goal.returns

@@ -1,16 +1,10 @@
 -- What the loops of `corners::row_by_row` keep. Assumes nothing.
-use mathlib.Core.Path.{◌≡◌, ◌∙◌}
-use Prim.Native.Nat.{◌+◌, ◌-◌, ◌≤◌, ◌<◌}
-use native.Mathlib.Omega.{arith}
-use borrow.Author.Rules.{rules}
-use mir.Facts.{to_z-of_z}
-use mir.Syntax.{w64}
-use mir.Val.{SFits, to_z}
+use mathlib.Core.Path.{◌≡◌}
+use Prim.Native.Nat.{◌+◌, ◌-◌, ◌≤◌}
 use Rattle.numbers.specs.Sum.{sum_to}
 use Rattle.numbers.specs.Wrap.{wrap}
-use Rattle.numbers.proofs.Running.{range_none, range-more}
 use Rattle.picture.specs.Window.{shape_of}
-use Rattle.corners.proofs.Rectangles.{row_part, part-read, rows-read, reach-small}
+use Rattle.corners.proofs.Rectangles.{row_part}
 use Rattle.corners.proofs.row_by_row.Given as goal
 
 abbrev pub invariant-loop-m : goal.invariant-loop-m

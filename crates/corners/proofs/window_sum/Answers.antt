@@ -1,7 +1,6 @@
 -- `corners::window_sum` meets its contract. Assumes nothing.
 use mathlib.Core.Path.{sym, ◌∙◌}
 use native.Mathlib.Omega.{arith}
-use borrow.Author.Rules.{rules}
 use mir.Facts.{to_z-of_z}
 use Rattle.picture.specs.Window.{shape_of}
 use Rattle.picture.proofs.Windows.{small}

@@ -83,12 +83,12 @@ wide_root-largest-requires c =
     let some-f : nat_abs (Vf sums) ≡ 0 → ⊥ = λ e. c.if-m-eq0.false (vf-is _ _ taken ∙ e) in
     let some-g : nat_abs (Vg sums) ≡ 0 → ⊥ = λ e. c.if-m-eq0-2.false (vg-is _ _ taken ∙ e) in
     let fits-c : SFits w64 c.in-Given.m.c = search rules in
-    let product_is : value c.multiply-in-Given.result ≡ nat_abs (Vf sums) * nat_abs (Vg sums) = 
-        let t = taken in
-        c.multiply-in-Given.ensures ∙ ap₂ (λ (x y : ℕ). x * y) (vf-is _ _ t) (vg-is _ _ t) in
-    let square-is : scaled_value c.scale.result ≡ 1000000 * (nat_abs (covariance sums) * nat_abs (covariance sums)) = 
-        let size = (simp (to_z-of_z, fits-c) at c.magnitude-size.ensures) ∙ ap nat_abs (c-is _ _ taken) in
-        c.scale.ensures ∙ ap (λ (n : ℕ). 1000000 * n) (c.multiply.ensures ∙ ap (λ (n : ℕ). n * n) size) in
+    let product_is : value c.multiply-in-Given.result ≡ nat_abs (Vf sums) * nat_abs (Vg sums) =
+    let t = taken in
+    c.multiply-in-Given.ensures ∙ ap₂ (λ (x y : ℕ). x * y) (vf-is _ _ t) (vg-is _ _ t) in
+    let square-is : scaled_value c.scale.result ≡ 1000000 * (nat_abs (covariance sums) * nat_abs (covariance sums)) =
+    let size = (simp (to_z-of_z, fits-c) at c.magnitude-size.ensures) ∙ ap nat_abs (c-is _ _ taken) in
+    c.scale.ensures ∙ ap (λ (n : ℕ). 1000000 * n) (c.multiply.ensures ∙ ap (λ (n : ℕ). n * n) size) in
     correlated sums _ _ product_is square-is taken.possible some-f some-g
 
 minus-fits : (n : ℕ) → n ≤ 1000 → SFits w64 (pos 0 -ℤ pos n)
@@ -102,21 +102,21 @@ returns-then-m-lt0 c =
     let some-f : nat_abs (Vf sums) ≡ 0 → ⊥ = λ e. c.if-m-eq0.false (vf-is _ _ taken ∙ e) in
     let some-g : nat_abs (Vg sums) ≡ 0 → ⊥ = λ e. c.if-m-eq0-2.false (vg-is _ _ taken ∙ e) in
     let fits-c : SFits w64 c.in-Given.m.c = search rules in
-    let product_is : value c.multiply-in-Given.result ≡ nat_abs (Vf sums) * nat_abs (Vg sums) = 
-        let t = taken in
-        c.multiply-in-Given.ensures ∙ ap₂ (λ (x y : ℕ). x * y) (vf-is _ _ t) (vg-is _ _ t) in
-    let square-is : scaled_value c.scale.result ≡ 1000000 * (nat_abs (covariance sums) * nat_abs (covariance sums)) = 
-        let size = (simp (to_z-of_z, fits-c) at c.magnitude-size.ensures) ∙ ap nat_abs (c-is _ _ taken) in
-        c.scale.ensures ∙ ap (λ (n : ℕ). 1000000 * n) (c.multiply.ensures ∙ ap (λ (n : ℕ). n * n) size) in
+    let product_is : value c.multiply-in-Given.result ≡ nat_abs (Vf sums) * nat_abs (Vg sums) =
+    let t = taken in
+    c.multiply-in-Given.ensures ∙ ap₂ (λ (x y : ℕ). x * y) (vf-is _ _ t) (vg-is _ _ t) in
+    let square-is : scaled_value c.scale.result ≡ 1000000 * (nat_abs (covariance sums) * nat_abs (covariance sums)) =
+    let size = (simp (to_z-of_z, fits-c) at c.magnitude-size.ensures) ∙ ap nat_abs (c-is _ _ taken) in
+    c.scale.ensures ∙ ap (λ (n : ℕ). 1000000 * n) (c.multiply.ensures ∙ ap (λ (n : ℕ). n * n) size) in
     let root_is : c.wide_root-largest.result ≡ magnitude sums = c.wide_root-largest.ensures ∙ ap₂ root_over square-is product_is in
-    let root-small : c.wide_root-largest.result ≤ 1000 = 
-        let f = some-f in
-        let g = some-g in
-        omega (arith, root_is, magnitude-bound sums taken.possible (mul-pos (omega arith) (omega arith))) in
+    let root-small : c.wide_root-largest.result ≤ 1000 =
+    let f = some-f in
+    let g = some-g in
+    omega (arith, root_is, magnitude-bound sums taken.possible (mul-pos (omega arith) (omega arith))) in
     let root-signed : to_z w64 c.wide_root-largest.result ≡ pos c.wide_root-largest.result = to_z_pos w64 (omega (arith, root-small)) in
-    let answer : (x : ℤ) → x ≡ signed c.in-Given.m.c c.wide_root-largest.result → answered (coefficients.value x) ≡ coefficient_call sums = 
-        λ x e. let t = taken in
-        answers-value sums t.possible t.some_cell some-f some-g x (e ∙ ap₂ signed (c-is _ _ t) root_is) in
+    let answer : (x : ℤ) → x ≡ signed c.in-Given.m.c c.wide_root-largest.result → answered (coefficients.value x) ≡ coefficient_call sums =
+    λ x e. let t = taken in
+    answers-value sums t.possible t.some_cell some-f some-g x (e ∙ ap₂ signed (c-is _ _ t) root_is) in
     simp (root-signed, to_z-of_z, minus-fits _ root-small)
     (answer _ (signed-negative c.in-Given.m.c _ (simp (to_z-of_z, fits-c) at c.if-m-lt0.true)))
 
@@ -139,19 +139,19 @@ returns-else-m-lt0 c =
     let some-f : nat_abs (Vf sums) ≡ 0 → ⊥ = λ e. c.if-m-eq0.false (vf-is _ _ taken ∙ e) in
     let some-g : nat_abs (Vg sums) ≡ 0 → ⊥ = λ e. c.if-m-eq0-2.false (vg-is _ _ taken ∙ e) in
     let fits-c : SFits w64 c.in-Given.m.c = search rules in
-    let product_is : value c.multiply-in-Given.result ≡ nat_abs (Vf sums) * nat_abs (Vg sums) = 
-        let t = taken in
-        c.multiply-in-Given.ensures ∙ ap₂ (λ (x y : ℕ). x * y) (vf-is _ _ t) (vg-is _ _ t) in
-    let square-is : scaled_value c.scale.result ≡ 1000000 * (nat_abs (covariance sums) * nat_abs (covariance sums)) = 
-        let size = (simp (to_z-of_z, fits-c) at c.magnitude-size.ensures) ∙ ap nat_abs (c-is _ _ taken) in
-        c.scale.ensures ∙ ap (λ (n : ℕ). 1000000 * n) (c.multiply.ensures ∙ ap (λ (n : ℕ). n * n) size) in
+    let product_is : value c.multiply-in-Given.result ≡ nat_abs (Vf sums) * nat_abs (Vg sums) =
+    let t = taken in
+    c.multiply-in-Given.ensures ∙ ap₂ (λ (x y : ℕ). x * y) (vf-is _ _ t) (vg-is _ _ t) in
+    let square-is : scaled_value c.scale.result ≡ 1000000 * (nat_abs (covariance sums) * nat_abs (covariance sums)) =
+    let size = (simp (to_z-of_z, fits-c) at c.magnitude-size.ensures) ∙ ap nat_abs (c-is _ _ taken) in
+    c.scale.ensures ∙ ap (λ (n : ℕ). 1000000 * n) (c.multiply.ensures ∙ ap (λ (n : ℕ). n * n) size) in
     let root_is : c.wide_root-largest.result ≡ magnitude sums = c.wide_root-largest.ensures ∙ ap₂ root_over square-is product_is in
-    let root-small : c.wide_root-largest.result ≤ 1000 = 
-        let f = some-f in
-        let g = some-g in
-        omega (arith, root_is, magnitude-bound sums taken.possible (mul-pos (omega arith) (omega arith))) in
+    let root-small : c.wide_root-largest.result ≤ 1000 =
+    let f = some-f in
+    let g = some-g in
+    omega (arith, root_is, magnitude-bound sums taken.possible (mul-pos (omega arith) (omega arith))) in
     let root-signed : to_z w64 c.wide_root-largest.result ≡ pos c.wide_root-largest.result = to_z_pos w64 (omega (arith, root-small)) in
-    let answer : (x : ℤ) → x ≡ signed c.in-Given.m.c c.wide_root-largest.result → answered (coefficients.value x) ≡ coefficient_call sums = 
-        λ x e. let t = taken in
-        answers-value sums t.possible t.some_cell some-f some-g x (e ∙ ap₂ signed (c-is _ _ t) root_is) in
+    let answer : (x : ℤ) → x ≡ signed c.in-Given.m.c c.wide_root-largest.result → answered (coefficients.value x) ≡ coefficient_call sums =
+    λ x e. let t = taken in
+    answers-value sums t.possible t.some_cell some-f some-g x (e ∙ ap₂ signed (c-is _ _ t) root_is) in
     simp root-signed (answer _ (signed-positive c.in-Given.m.c _ (simp (to_z-of_z, fits-c) at c.if-m-lt0.false)))

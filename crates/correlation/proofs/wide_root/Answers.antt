@@ -1,15 +1,11 @@
 -- `correlation::wide_root` meets its contract. Assumes nothing.
-use borrow.Author.Rules.{rules}
-use mathlib.Core.Path.{◌≡◌, sym, ap, ◌∙◌}
-use Prim.Native.Nat.{ℕ, ◌+◌, ◌*◌, ◌-◌, ◌/◌, ◌≤◌}
+use Prim.Native.Nat.{ℕ, ◌*◌, ◌≤◌}
 use native.Mathlib.Omega.{arith}
 use native.Mathlib.Nat.{mul-le-mul}
-use lib.Dec.{leb}
-use borrow.Author.Tests.{leb-true, leb-false}
 use mir.Syntax.{w32}
 use mir.Val.{Fits}
 use Rattle.wide.specs.Words.{value, scaled_value}
-use Rattle.statistics.proofs.Halving.{Between, start, first-half, second-half, found}
+use Rattle.statistics.proofs.Halving.{found}
 use Rattle.correlation.proofs.wide_root.Goals as goal
 
 square-fits : (m : ℕ) → m ≤ 1000 → Fits w32 (m * m)

@@ -1,15 +1,7 @@
 -- What the loops of `correlation::wide_root` keep. Assumes nothing.
-use borrow.Author.Rules.{rules}
-use mathlib.Core.Path.{◌≡◌, sym, ap, ◌∙◌}
-use Prim.Native.Nat.{ℕ, ◌+◌, ◌*◌, ◌-◌, ◌/◌, ◌≤◌}
-use native.Mathlib.Omega.{arith}
-use native.Mathlib.Nat.{mul-le-mul}
-use lib.Dec.{leb}
-use borrow.Author.Tests.{leb-true, leb-false}
-use mir.Syntax.{w32}
-use mir.Val.{Fits}
+use Prim.Native.Nat.{◌-◌}
 use Rattle.wide.specs.Words.{value, scaled_value}
-use Rattle.statistics.proofs.Halving.{Between, start, first-half, second-half, found}
+use Rattle.statistics.proofs.Halving.{Between}
 use Rattle.correlation.proofs.wide_root.Given as goal
 
 abbrev pub invariant-loop-low : goal.invariant-loop-low

@@ -1,5 +1,4 @@
 -- `direct::direct_sum` meets its contract. Assumes nothing.
-use borrow.Author.Rules.{rules}
 use mathlib.Core.Path.{sym, ap, ◌∙◌}
 use mir.Facts.{to_z-of_z}
 use mir.Syntax.{w64}

@@ -1,15 +1,12 @@
 -- `exchange_loops::exchange_levels` meets its contract. Assumes nothing.
-use borrow.Author.Rules.{rules}
-use mathlib.Core.Path.{◌≡◌, ◌∙◌, ap}
-use Prim.Native.Nat.{ℕ, ◌-◌}
+use mathlib.Core.Path.{◌∙◌, ap}
 use native.Mathlib.Omega.{arith}
 use lib.IntN.{ℤ, ◌+ℤ◌, ◌-ℤ◌}
-use lib.ListN.{length}
 use mir.Facts.{to_z-of_z}
 use mir.Syntax.{w16, w64}
 use mir.Val.{SFits}
 use Rattle.numbers.specs.Wrap.{wrap}
-use Rattle.numbers.proofs.Writes.{at, Upto, upto-none, upto-more, upto_all}
+use Rattle.numbers.proofs.Writes.{at, upto-more, upto_all}
 use Rattle.exchange_loops.proofs.exchange_levels.Goals as goal
 
 pub loop-k-preserved : goal.loop-k-preserved

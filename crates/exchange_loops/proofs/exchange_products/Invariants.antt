@@ -1,16 +1,9 @@
 -- What the loops of `exchange_loops::exchange_products` keep. Assumes nothing.
-use borrow.Author.Rules.{rules}
-use mathlib.Core.Path.{◌≡◌, ◌∙◌, ap, ap₂}
 use Prim.Native.Nat.{ℕ, ◌-◌}
-use native.Mathlib.Omega.{arith}
-use lib.IntN.{ℤ, ◌+ℤ◌, ◌-ℤ◌, ◌*ℤ◌}
+use lib.IntN.{◌+ℤ◌, ◌-ℤ◌, ◌*ℤ◌}
 use lib.ListN.{length}
-use mir.Facts.{to_z-of_z}
-use mir.Syntax.{w16, w64}
-use mir.Val.{SFits}
 use Rattle.numbers.specs.Wrap.{wrap}
-use Rattle.numbers.proofs.Wraps.{wrap-add-right}
-use Rattle.numbers.proofs.Writes.{at, Upto, upto-none, upto-more, upto_all}
+use Rattle.numbers.proofs.Writes.{at, Upto}
 use Rattle.exchange_loops.proofs.exchange_products.Given as goal
 
 abbrev pub invariant-loop-k : goal.invariant-loop-k

@@ -1,5 +1,4 @@
 -- `exchanges::enter_values` meets its contract. Assumes nothing.
-use borrow.Author.Rules.{rules}
 use Rattle.lines.proofs.Exchanges.{entered}
 use Rattle.exchanges.proofs.enter_values.Goals as goal
 

@@ -1,5 +1,4 @@
 -- `exchanges::exchange_values` meets its contract. Assumes nothing.
-use borrow.Author.Rules.{rules}
 use native.Mathlib.Omega.{arith}
 use mir.Facts.{to_z-of_z}
 use Rattle.lines.proofs.Exchanges.{changed-0, changed-1, changed-2, changed-3, changed-4, changed-5}

@@ -1,5 +1,4 @@
 -- `exchanges::leave_values` meets its contract. Assumes nothing.
-use borrow.Author.Rules.{rules}
 use Rattle.lines.proofs.Exchanges.{left}
 use Rattle.exchanges.proofs.leave_values.Goals as goal
 

@@ -29,17 +29,17 @@ overflow_add-hi c =
     let counting : Overlap = c.overlap_of-counting.result in
     let along : Overlap = c.overlap_of-along.result in
     let line : Line = c.line_of-line.result in
-    let right-overlaps : Overlapping columns c.args.shift.right along = 
-        let f : SFits w32 c.args.shift.right = record { sfits = c.struct_told-1.given.1.0.1 } in
-        simp (to_z-of_z, f) at c.overlap_of-along.ensures in
-    let lies : Lies c.args.f.now c.args.g.now columns line = 
-        let all : along.end - along.first ≡ columns = omega (arith, c.if-columns-along.true, right-overlaps.within) in
-        subst (λ (n : ℕ). Lies c.args.f.now c.args.g.now n line) all
-        (subst (Lies c.args.f.now c.args.g.now (along.end - along.first)) (sym c.line_of-line.ensures)
-        (line-lies c.args.size counting along c.args.i c.args.f.now c.args.g.now (in-limits c.args.size c.requires.legal) (search rules) (search rules) c.requires.length_f c.requires.length_g)) in
-    let few : c.args.size.rows * columns ≤ 262144 = 
-        let l = in-limits c.args.size c.requires.legal in
-        mul-le-mul l.few_rows l.few_columns in
+    let right-overlaps : Overlapping columns c.args.shift.right along =
+    let f : SFits w32 c.args.shift.right = record { sfits = c.struct_told-1.given.1.0.1 } in
+    simp (to_z-of_z, f) at c.overlap_of-along.ensures in
+    let lies : Lies c.args.f.now c.args.g.now columns line =
+    let all : along.end - along.first ≡ columns = omega (arith, c.if-columns-along.true, right-overlaps.within) in
+    subst (λ (n : ℕ). Lies c.args.f.now c.args.g.now n line) all
+    (subst (Lies c.args.f.now c.args.g.now (along.end - along.first)) (sym c.line_of-line.ensures)
+    (line-lies c.args.size counting along c.args.i c.args.f.now c.args.g.now (in-limits c.args.size c.requires.legal) (search rules) (search rules) c.requires.length_f c.requires.length_g)) in
+    let few : c.args.size.rows * columns ≤ 262144 =
+    let l = in-limits c.args.size c.requires.legal in
+    mul-le-mul l.few_rows l.few_columns in
     omega (arith, lies.in_f, few, c.requires.length_f)
 
 pub overflow_add-until : goal.overflow_add-until
@@ -48,17 +48,17 @@ overflow_add-until c =
     let counting : Overlap = c.overlap_of-counting.result in
     let along : Overlap = c.overlap_of-along.result in
     let line : Line = c.line_of-line.result in
-    let right-overlaps : Overlapping columns c.args.shift.right along = 
-        let f : SFits w32 c.args.shift.right = record { sfits = c.struct_told-1.given.1.0.1 } in
-        simp (to_z-of_z, f) at c.overlap_of-along.ensures in
-    let lies : Lies c.args.f.now c.args.g.now columns line = 
-        let all : along.end - along.first ≡ columns = omega (arith, c.if-columns-along.true, right-overlaps.within) in
-        subst (λ (n : ℕ). Lies c.args.f.now c.args.g.now n line) all
-        (subst (Lies c.args.f.now c.args.g.now (along.end - along.first)) (sym c.line_of-line.ensures)
-        (line-lies c.args.size counting along c.args.i c.args.f.now c.args.g.now (in-limits c.args.size c.requires.legal) (search rules) (search rules) c.requires.length_f c.requires.length_g)) in
-    let few : c.args.size.rows * columns ≤ 262144 = 
-        let l = in-limits c.args.size c.requires.legal in
-        mul-le-mul l.few_rows l.few_columns in
+    let right-overlaps : Overlapping columns c.args.shift.right along =
+    let f : SFits w32 c.args.shift.right = record { sfits = c.struct_told-1.given.1.0.1 } in
+    simp (to_z-of_z, f) at c.overlap_of-along.ensures in
+    let lies : Lies c.args.f.now c.args.g.now columns line =
+    let all : along.end - along.first ≡ columns = omega (arith, c.if-columns-along.true, right-overlaps.within) in
+    subst (λ (n : ℕ). Lies c.args.f.now c.args.g.now n line) all
+    (subst (Lies c.args.f.now c.args.g.now (along.end - along.first)) (sym c.line_of-line.ensures)
+    (line-lies c.args.size counting along c.args.i c.args.f.now c.args.g.now (in-limits c.args.size c.requires.legal) (search rules) (search rules) c.requires.length_f c.requires.length_g)) in
+    let few : c.args.size.rows * columns ≤ 262144 =
+    let l = in-limits c.args.size c.requires.legal in
+    mul-le-mul l.few_rows l.few_columns in
     omega (arith, lies.in_g, few, c.requires.length_g)
 
 pub offset_bounds-f-lo : goal.offset_bounds-f-lo
@@ -67,17 +67,17 @@ offset_bounds-f-lo c =
     let counting : Overlap = c.overlap_of-counting.result in
     let along : Overlap = c.overlap_of-along.result in
     let line : Line = c.line_of-line.result in
-    let right-overlaps : Overlapping columns c.args.shift.right along = 
-        let f : SFits w32 c.args.shift.right = record { sfits = c.struct_told-1.given.1.0.1 } in
-        simp (to_z-of_z, f) at c.overlap_of-along.ensures in
-    let lies : Lies c.args.f.now c.args.g.now columns line = 
-        let all : along.end - along.first ≡ columns = omega (arith, c.if-columns-along.true, right-overlaps.within) in
-        subst (λ (n : ℕ). Lies c.args.f.now c.args.g.now n line) all
-        (subst (Lies c.args.f.now c.args.g.now (along.end - along.first)) (sym c.line_of-line.ensures)
-        (line-lies c.args.size counting along c.args.i c.args.f.now c.args.g.now (in-limits c.args.size c.requires.legal) (search rules) (search rules) c.requires.length_f c.requires.length_g)) in
-    let few : c.args.size.rows * columns ≤ 262144 = 
-        let l = in-limits c.args.size c.requires.legal in
-        mul-le-mul l.few_rows l.few_columns in
+    let right-overlaps : Overlapping columns c.args.shift.right along =
+    let f : SFits w32 c.args.shift.right = record { sfits = c.struct_told-1.given.1.0.1 } in
+    simp (to_z-of_z, f) at c.overlap_of-along.ensures in
+    let lies : Lies c.args.f.now c.args.g.now columns line =
+    let all : along.end - along.first ≡ columns = omega (arith, c.if-columns-along.true, right-overlaps.within) in
+    subst (λ (n : ℕ). Lies c.args.f.now c.args.g.now n line) all
+    (subst (Lies c.args.f.now c.args.g.now (along.end - along.first)) (sym c.line_of-line.ensures)
+    (line-lies c.args.size counting along c.args.i c.args.f.now c.args.g.now (in-limits c.args.size c.requires.legal) (search rules) (search rules) c.requires.length_f c.requires.length_g)) in
+    let few : c.args.size.rows * columns ≤ 262144 =
+    let l = in-limits c.args.size c.requires.legal in
+    mul-le-mul l.few_rows l.few_columns in
     omega (arith, lies.in_f, few, c.requires.length_f)
 
 pub slice_bounds-next_levels-end : goal.slice_bounds-next_levels-end
@@ -86,14 +86,14 @@ slice_bounds-next_levels-end c =
     let counting : Overlap = c.overlap_of-counting.result in
     let along : Overlap = c.overlap_of-along.result in
     let line : Line = c.line_of-line.result in
-    let right-overlaps : Overlapping columns c.args.shift.right along = 
-        let f : SFits w32 c.args.shift.right = record { sfits = c.struct_told-1.given.1.0.1 } in
-        simp (to_z-of_z, f) at c.overlap_of-along.ensures in
-    let lies : Lies c.args.f.now c.args.g.now columns line = 
-        let all : along.end - along.first ≡ columns = omega (arith, c.if-columns-along.true, right-overlaps.within) in
-        subst (λ (n : ℕ). Lies c.args.f.now c.args.g.now n line) all
-        (subst (Lies c.args.f.now c.args.g.now (along.end - along.first)) (sym c.line_of-line.ensures)
-        (line-lies c.args.size counting along c.args.i c.args.f.now c.args.g.now (in-limits c.args.size c.requires.legal) (search rules) (search rules) c.requires.length_f c.requires.length_g)) in
+    let right-overlaps : Overlapping columns c.args.shift.right along =
+    let f : SFits w32 c.args.shift.right = record { sfits = c.struct_told-1.given.1.0.1 } in
+    simp (to_z-of_z, f) at c.overlap_of-along.ensures in
+    let lies : Lies c.args.f.now c.args.g.now columns line =
+    let all : along.end - along.first ≡ columns = omega (arith, c.if-columns-along.true, right-overlaps.within) in
+    subst (λ (n : ℕ). Lies c.args.f.now c.args.g.now n line) all
+    (subst (Lies c.args.f.now c.args.g.now (along.end - along.first)) (sym c.line_of-line.ensures)
+    (line-lies c.args.size counting along c.args.i c.args.f.now c.args.g.now (in-limits c.args.size c.requires.legal) (search rules) (search rules) c.requires.length_f c.requires.length_g)) in
     lies.in_f
 
 pub returns-then-plane-eq1 : goal.returns-then-plane-eq1
@@ -103,17 +103,17 @@ returns-then-plane-eq1 c =
     let counting : Overlap = c.overlap_of-counting.result in
     let along : Overlap = c.overlap_of-along.result in
     let line : Line = c.line_of-line.result in
-    let down-overlaps : Overlapping c.args.size.rows c.args.shift.down counting = 
-        let f : SFits w32 c.args.shift.down = record { sfits = c.struct_told-1.given.0.1 } in
-        simp (to_z-of_z, f) at c.overlap_of-counting.ensures in
-    let right-overlaps : Overlapping columns c.args.shift.right along = 
-        let f : SFits w32 c.args.shift.right = record { sfits = c.struct_told-1.given.1.0.1 } in
-        simp (to_z-of_z, f) at c.overlap_of-along.ensures in
-    let lies : Lies c.args.f.now c.args.g.now columns line = 
-        let all : along.end - along.first ≡ columns = omega (arith, c.if-columns-along.true, right-overlaps.within) in
-        subst (λ (n : ℕ). Lies c.args.f.now c.args.g.now n line) all
-        (subst (Lies c.args.f.now c.args.g.now (along.end - along.first)) (sym c.line_of-line.ensures)
-        (line-lies c.args.size counting along c.args.i c.args.f.now c.args.g.now (in-limits c.args.size c.requires.legal) (search rules) (search rules) c.requires.length_f c.requires.length_g)) in
+    let down-overlaps : Overlapping c.args.size.rows c.args.shift.down counting =
+    let f : SFits w32 c.args.shift.down = record { sfits = c.struct_told-1.given.0.1 } in
+    simp (to_z-of_z, f) at c.overlap_of-counting.ensures in
+    let right-overlaps : Overlapping columns c.args.shift.right along =
+    let f : SFits w32 c.args.shift.right = record { sfits = c.struct_told-1.given.1.0.1 } in
+    simp (to_z-of_z, f) at c.overlap_of-along.ensures in
+    let lies : Lies c.args.f.now c.args.g.now columns line =
+    let all : along.end - along.first ≡ columns = omega (arith, c.if-columns-along.true, right-overlaps.within) in
+    subst (λ (n : ℕ). Lies c.args.f.now c.args.g.now n line) all
+    (subst (Lies c.args.f.now c.args.g.now (along.end - along.first)) (sym c.line_of-line.ensures)
+    (line-lies c.args.size counting along c.args.i c.args.f.now c.args.g.now (in-limits c.args.size c.requires.legal) (search rules) (search rules) c.requires.length_f c.requires.length_g)) in
     let row-f : List ℤ = lent-f c.args.f.now c.args.g.now columns line lies in
     let row-g : List ℤ = lent-g c.args.f.now c.args.g.now columns line lies in
     let whole : (length row-f ≡ columns) × (length row-g ≡ columns) = lent-lengths c.args.f.now c.args.g.now columns line lies in
@@ -126,17 +126,17 @@ offset_bounds-g-at c =
     let counting : Overlap = c.overlap_of-counting.result in
     let along : Overlap = c.overlap_of-along.result in
     let line : Line = c.line_of-line.result in
-    let right-overlaps : Overlapping columns c.args.shift.right along = 
-        let f : SFits w32 c.args.shift.right = record { sfits = c.struct_told-1.given.1.0.1 } in
-        simp (to_z-of_z, f) at c.overlap_of-along.ensures in
-    let lies : Lies c.args.f.now c.args.g.now columns line = 
-        let all : along.end - along.first ≡ columns = omega (arith, c.if-columns-along.true, right-overlaps.within) in
-        subst (λ (n : ℕ). Lies c.args.f.now c.args.g.now n line) all
-        (subst (Lies c.args.f.now c.args.g.now (along.end - along.first)) (sym c.line_of-line.ensures)
-        (line-lies c.args.size counting along c.args.i c.args.f.now c.args.g.now (in-limits c.args.size c.requires.legal) (search rules) (search rules) c.requires.length_f c.requires.length_g)) in
-    let few : c.args.size.rows * columns ≤ 262144 = 
-        let l = in-limits c.args.size c.requires.legal in
-        mul-le-mul l.few_rows l.few_columns in
+    let right-overlaps : Overlapping columns c.args.shift.right along =
+    let f : SFits w32 c.args.shift.right = record { sfits = c.struct_told-1.given.1.0.1 } in
+    simp (to_z-of_z, f) at c.overlap_of-along.ensures in
+    let lies : Lies c.args.f.now c.args.g.now columns line =
+    let all : along.end - along.first ≡ columns = omega (arith, c.if-columns-along.true, right-overlaps.within) in
+    subst (λ (n : ℕ). Lies c.args.f.now c.args.g.now n line) all
+    (subst (Lies c.args.f.now c.args.g.now (along.end - along.first)) (sym c.line_of-line.ensures)
+    (line-lies c.args.size counting along c.args.i c.args.f.now c.args.g.now (in-limits c.args.size c.requires.legal) (search rules) (search rules) c.requires.length_f c.requires.length_g)) in
+    let few : c.args.size.rows * columns ≤ 262144 =
+    let l = in-limits c.args.size c.requires.legal in
+    mul-le-mul l.few_rows l.few_columns in
     omega (arith, lies.in_g, few, c.requires.length_g)
 
 pub slice_bounds-next_levels-end-then-plane-eq2 : goal.slice_bounds-next_levels-end-then-plane-eq2
@@ -145,14 +145,14 @@ slice_bounds-next_levels-end-then-plane-eq2 c =
     let counting : Overlap = c.overlap_of-counting.result in
     let along : Overlap = c.overlap_of-along.result in
     let line : Line = c.line_of-line.result in
-    let right-overlaps : Overlapping columns c.args.shift.right along = 
-        let f : SFits w32 c.args.shift.right = record { sfits = c.struct_told-1.given.1.0.1 } in
-        simp (to_z-of_z, f) at c.overlap_of-along.ensures in
-    let lies : Lies c.args.f.now c.args.g.now columns line = 
-        let all : along.end - along.first ≡ columns = omega (arith, c.if-columns-along.true, right-overlaps.within) in
-        subst (λ (n : ℕ). Lies c.args.f.now c.args.g.now n line) all
-        (subst (Lies c.args.f.now c.args.g.now (along.end - along.first)) (sym c.line_of-line.ensures)
-        (line-lies c.args.size counting along c.args.i c.args.f.now c.args.g.now (in-limits c.args.size c.requires.legal) (search rules) (search rules) c.requires.length_f c.requires.length_g)) in
+    let right-overlaps : Overlapping columns c.args.shift.right along =
+    let f : SFits w32 c.args.shift.right = record { sfits = c.struct_told-1.given.1.0.1 } in
+    simp (to_z-of_z, f) at c.overlap_of-along.ensures in
+    let lies : Lies c.args.f.now c.args.g.now columns line =
+    let all : along.end - along.first ≡ columns = omega (arith, c.if-columns-along.true, right-overlaps.within) in
+    subst (λ (n : ℕ). Lies c.args.f.now c.args.g.now n line) all
+    (subst (Lies c.args.f.now c.args.g.now (along.end - along.first)) (sym c.line_of-line.ensures)
+    (line-lies c.args.size counting along c.args.i c.args.f.now c.args.g.now (in-limits c.args.size c.requires.legal) (search rules) (search rules) c.requires.length_f c.requires.length_g)) in
     lies.in_g
 
 pub returns-then-plane-eq2 : goal.returns-then-plane-eq2
@@ -162,17 +162,17 @@ returns-then-plane-eq2 c =
     let counting : Overlap = c.overlap_of-counting.result in
     let along : Overlap = c.overlap_of-along.result in
     let line : Line = c.line_of-line.result in
-    let down-overlaps : Overlapping c.args.size.rows c.args.shift.down counting = 
-        let f : SFits w32 c.args.shift.down = record { sfits = c.struct_told-1.given.0.1 } in
-        simp (to_z-of_z, f) at c.overlap_of-counting.ensures in
-    let right-overlaps : Overlapping columns c.args.shift.right along = 
-        let f : SFits w32 c.args.shift.right = record { sfits = c.struct_told-1.given.1.0.1 } in
-        simp (to_z-of_z, f) at c.overlap_of-along.ensures in
-    let lies : Lies c.args.f.now c.args.g.now columns line = 
-        let all : along.end - along.first ≡ columns = omega (arith, c.if-columns-along.true, right-overlaps.within) in
-        subst (λ (n : ℕ). Lies c.args.f.now c.args.g.now n line) all
-        (subst (Lies c.args.f.now c.args.g.now (along.end - along.first)) (sym c.line_of-line.ensures)
-        (line-lies c.args.size counting along c.args.i c.args.f.now c.args.g.now (in-limits c.args.size c.requires.legal) (search rules) (search rules) c.requires.length_f c.requires.length_g)) in
+    let down-overlaps : Overlapping c.args.size.rows c.args.shift.down counting =
+    let f : SFits w32 c.args.shift.down = record { sfits = c.struct_told-1.given.0.1 } in
+    simp (to_z-of_z, f) at c.overlap_of-counting.ensures in
+    let right-overlaps : Overlapping columns c.args.shift.right along =
+    let f : SFits w32 c.args.shift.right = record { sfits = c.struct_told-1.given.1.0.1 } in
+    simp (to_z-of_z, f) at c.overlap_of-along.ensures in
+    let lies : Lies c.args.f.now c.args.g.now columns line =
+    let all : along.end - along.first ≡ columns = omega (arith, c.if-columns-along.true, right-overlaps.within) in
+    subst (λ (n : ℕ). Lies c.args.f.now c.args.g.now n line) all
+    (subst (Lies c.args.f.now c.args.g.now (along.end - along.first)) (sym c.line_of-line.ensures)
+    (line-lies c.args.size counting along c.args.i c.args.f.now c.args.g.now (in-limits c.args.size c.requires.legal) (search rules) (search rules) c.requires.length_f c.requires.length_g)) in
     let row-f : List ℤ = lent-f c.args.f.now c.args.g.now columns line lies in
     let row-g : List ℤ = lent-g c.args.f.now c.args.g.now columns line lies in
     let whole : (length row-f ≡ columns) × (length row-g ≡ columns) = lent-lengths c.args.f.now c.args.g.now columns line lies in

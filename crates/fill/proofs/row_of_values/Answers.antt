@@ -2,7 +2,6 @@
 use mathlib.Core.Path.{◌≡◌, ◌∙◌, ap}
 use Prim.Native.Nat.{ℕ, ◌+◌, ◌-◌}
 use native.Mathlib.Omega.{arith}
-use borrow.Author.Rules.{rules}
 use Rattle.numbers.specs.Grid.{tabulate}
 use Rattle.numbers.proofs.Writes.{slice-length}
 use Rattle.picture.specs.Picture.{source, plane_at}

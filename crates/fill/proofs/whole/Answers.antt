@@ -1,13 +1,11 @@
 -- `fill::whole` meets its contract. Assumes nothing.
 use mathlib.Core.Path.{◌≡◌, sym, ◌∙◌, ap}
-use Prim.Native.Nat.{ℕ, ◌+◌, ◌-◌, ◌*◌, ◌≤◌, ◌<◌}
+use Prim.Native.Nat.{ℕ, ◌+◌, ◌<◌}
 use native.Mathlib.Nat.{one-mul}
 use native.Mathlib.Omega.{arith}
-use lib.ListN.{length}
 use lib.Seq.{length-take-le}
-use borrow.Author.Rules.{rules}
 use Rattle.numbers.specs.Grid.{tabulate}
-use Rattle.numbers.proofs.Lines.{Lines, line-end, line-next, lines-all}
+use Rattle.numbers.proofs.Lines.{line-end, line-next, lines-all}
 use Rattle.picture.specs.Picture.{Source, source, plane_at}
 use Rattle.picture.proofs.Refusals.{in-limits}
 use Rattle.picture.proofs.Planes.{plane-bound}

@@ -1,18 +1,10 @@
 -- What the loops of `fill::whole` keep. Assumes nothing.
-use mathlib.Core.Path.{◌≡◌, sym, ◌∙◌, ap}
-use Prim.Native.Nat.{ℕ, ◌+◌, ◌-◌, ◌*◌, ◌≤◌, ◌<◌}
-use native.Mathlib.Nat.{one-mul}
-use native.Mathlib.Omega.{arith}
+use mathlib.Core.Path.{◌≡◌}
+use Prim.Native.Nat.{◌-◌, ◌*◌, ◌≤◌}
 use lib.ListN.{length}
-use lib.Seq.{length-take-le}
-use borrow.Author.Rules.{rules}
-use Rattle.numbers.specs.Grid.{tabulate}
-use Rattle.numbers.proofs.Lines.{Lines, line-end, line-next, lines-all}
-use Rattle.picture.specs.Picture.{Source, source, plane_at}
-use Rattle.picture.proofs.Refusals.{in-limits}
-use Rattle.picture.proofs.Planes.{plane-bound}
-use Rattle.cumulative.specs.Table.{table_at, table_of}
-use Rattle.fill.proofs.RowSums.{first-line, next-line}
+use Rattle.numbers.proofs.Lines.{Lines}
+use Rattle.picture.specs.Picture.{source, plane_at}
+use Rattle.cumulative.specs.Table.{table_at}
 use Rattle.fill.proofs.whole.Given as goal
 
 abbrev pub invariant-loop-i : goal.invariant-loop-i

@@ -1,7 +1,6 @@
 -- `first_rows::first` meets its contract. Assumes nothing.
-use borrow.Author.Rules.{rules}
 use mathlib.Core.Path.{◌≡◌, refl, sym, ap, ◌∙◌}
-use Prim.Native.Nat.{ℕ, suc, ◌+◌, ◌-◌, ◌≤◌, min}
+use Prim.Native.Nat.{ℕ, suc, ◌+◌, ◌≤◌, min}
 use native.Mathlib.Omega.{arith}
 use lib.IntN.{ℤ}
 use lib.ListN.{length, drop, length-append, length-drop}
@@ -12,7 +11,7 @@ use Rattle.picture.specs.Picture.{Source, source, plane_at}
 use Rattle.picture.specs.Direct.{direct_sum}
 use Rattle.picture.proofs.Refusals.{in-limits}
 use Rattle.picture.proofs.Planes.{plane-bound}
-use Rattle.steps.proofs.Columns.{columns_to, columns-none, columns-plus, reached, windows-all}
+use Rattle.steps.proofs.Columns.{columns-none, columns-plus, reached, windows-all}
 use Rattle.first_rows.proofs.first.Goals as goal
 
 pub high-end-requires : goal.high-end-requires

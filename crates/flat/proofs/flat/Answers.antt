@@ -1,5 +1,4 @@
 -- `flat::flat` meets its contract. Assumes nothing.
-use borrow.Author.Rules.{rules}
 use mathlib.Core.Path.{◌≡◌, sym, ◌∙◌, ap}
 use Prim.Native.Nat.{ℕ, ◌≤◌, ◌<◌}
 use native.Mathlib.Omega.{arith}
@@ -77,7 +76,7 @@ returns c =
     let changes : length change ≡ columns = ap length c.gain.ensures ∙ length-tabulate _ _ in
     let given : List ℤ = take columns (change ++ rest) in
     let lent : columns ≡ length given = front_length columns change rest changes in
-    let gained : (m : ℕ) → m < columns → wrap (at given m) ≡ wrap (gains m) = 
-        λ m m-below. ap (λ (l : List ℤ). wrap (at l m)) (front columns change rest changes)
-        ∙ ap wrap (tabulate-at change _ _ c.gain.ensures m (omega (arith, changes))) ∙ wrap-wrap (gains m) in
+    let gained : (m : ℕ) → m < columns → wrap (at given m) ≡ wrap (gains m) =
+    λ m m-below. ap (λ (l : List ℤ). wrap (at l m)) (front columns change rest changes)
+    ∙ ap wrap (tabulate-at change _ _ c.gain.ensures m (omega (arith, changes))) ∙ wrap-wrap (gains m) in
     added-across c.args.size.columns c.args.k gains c.args.work.now _ given _ (sym lent) gained c.across.ensures c.requires.row.room c.add.ensures

@@ -1,24 +1,22 @@
 -- `hearing::first` meets its contract. Assumes nothing.
-use borrow.Author.Rules.{rules}
 use mathlib.Core.Path.{◌≡◌, refl, sym, ap, ◌∙◌}
 use mathlib.Core.Bool.{Bool, false}
-use mathlib.Core.List.{[], ◌∷◌}
-use Prim.Native.Nat.{ℕ, ◌+◌, ◌-◌, ◌*◌, ◌≤◌, ◌<◌}
+use mathlib.Core.List.{◌∷◌}
+use Prim.Native.Nat.{ℕ, ◌+◌, ◌*◌}
 use native.Mathlib.Omega.{arith}
 use mir.Facts.{to_z-of_z}
 use mir.Syntax.{w64}
 use mir.Val.{SFits}
 use types.Run.{OneOf, miss}
 use denote.Enum.Declared.{tag_of}
-use Rattle.numbers.proofs.Lines.{line-end}
 use Rattle.numbers.proofs.Writes.{at}
 use Rattle.statistics.specs.Answers.{voice_of}
 use Rattle.statistics.specs.declared.Voice.{Voice}
 use Rattle.statistics.specs.declared.Voice.TheVariants.{Empty, Steady, Grainy}
 use Rattle.statistics.specs.contracts.Voice.{the_type}
-use Rattle.smoothed.specs.Steady.{is_steady, find_column, find_cell}
+use Rattle.smoothed.specs.Steady.{is_steady}
 use Rattle.hearing.specs.Hearing.{steady_in}
-use Rattle.hearing.proofs.Searching.{whole_row, column-passed, column-found, no-column, whole-rows, row-passed, row-found, no_row}
+use Rattle.hearing.proofs.Searching.{column-passed, column-found, no-column, row-passed, row-found, no_row}
 use borrow.Enum.Refused.{opened}
 use Rattle.hearing.proofs.first.Goals as goal
 

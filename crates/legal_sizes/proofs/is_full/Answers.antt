@@ -1,5 +1,4 @@
 -- `legal_sizes::is_full` meets its contract. Assumes nothing.
-use mathlib.Core.Path.{refl}
 use native.Mathlib.Omega.{arith}
 use native.Mathlib.Nat.{mul-le-mul}
 use Rattle.picture.proofs.Refusals.{in-limits}

@@ -1,6 +1,5 @@
 -- `legal_windows::diamond_legal` meets its contract. Assumes nothing.
-use borrow.Author.Rules.{rules}
-use lib.IntN.{pos, negsuc}
+use lib.IntN.{pos}
 use mir.Facts.{to_z-of_z}
 use Rattle.numbers.proofs.Tests.{first-fails, first_holds}
 use Rattle.picture.specs.Window.{between, diamond_legal}

@@ -1,5 +1,4 @@
 -- `legal_windows::shift_legal` meets its contract. Assumes nothing.
-use borrow.Author.Rules.{rules}
 use lib.IntN.{pos, negsuc}
 use mir.Facts.{to_z-of_z}
 use mir.Syntax.{w32}

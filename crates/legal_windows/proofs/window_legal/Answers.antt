@@ -1,5 +1,4 @@
 -- `legal_windows::window_legal` meets its contract. Assumes nothing.
-use borrow.Author.Rules.{rules}
 use mathlib.Core.Path.{◌∙◌, sym}
 use mir.Facts.{to_z-of_z}
 use mir.Syntax.{w32}

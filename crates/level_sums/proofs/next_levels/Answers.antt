@@ -5,7 +5,6 @@ use native.Mathlib.Numerals.{add-one}
 use native.Mathlib.Omega.{arith}
 use lib.IntN.{ℤ, ◌+ℤ◌}
 use lib.ListN.{length}
-use borrow.Author.Rules.{rules}
 use mir.Facts.{to_z-of_z}
 use mir.Syntax.{w16, w64}
 use mir.Val.{SFits, to_z, of_z}
@@ -15,7 +14,7 @@ use Rattle.numbers.proofs.Running.{running_none, running_more}
 use Rattle.numbers.proofs.Widths.{fits_16_64}
 use Rattle.numbers.proofs.Writes.{at}
 use Rattle.row_sums.specs.RowSums.{next_number}
-use Rattle.row_sums.proofs.Written.{next-number, Written, written_none, written-more}
+use Rattle.row_sums.proofs.Written.{next-number, written_none, written-more}
 use Rattle.level_sums.proofs.next_levels.Goals as goal
 
 pub loop-j-init : goal.loop-j-init

@@ -1,21 +1,10 @@
 -- What the loops of `level_sums::next_levels` keep. Assumes nothing.
-use mathlib.Core.Path.{◌≡◌, refl, sym, ◌∙◌, ap}
-use Prim.Native.Nat.{ℕ, suc, ◌+◌, ◌-◌}
-use native.Mathlib.Numerals.{add-one}
-use native.Mathlib.Omega.{arith}
-use lib.IntN.{ℤ, ◌+ℤ◌}
-use lib.ListN.{length}
-use borrow.Author.Rules.{rules}
-use mir.Facts.{to_z-of_z}
-use mir.Syntax.{w16, w64}
-use mir.Val.{SFits, to_z, of_z}
+use mathlib.Core.Path.{◌≡◌}
+use Prim.Native.Nat.{◌-◌}
 use Rattle.numbers.specs.Sum.{sum_to}
 use Rattle.numbers.specs.Wrap.{wrap}
-use Rattle.numbers.proofs.Running.{running_none, running_more}
-use Rattle.numbers.proofs.Widths.{fits_16_64}
 use Rattle.numbers.proofs.Writes.{at}
-use Rattle.row_sums.specs.RowSums.{next_number}
-use Rattle.row_sums.proofs.Written.{next-number, Written, written_none, written-more}
+use Rattle.row_sums.proofs.Written.{Written}
 use Rattle.level_sums.proofs.next_levels.Given as goal
 
 abbrev pub invariant-loop-j : goal.invariant-loop-j

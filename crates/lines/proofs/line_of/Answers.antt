@@ -1,7 +1,6 @@
 -- `lines::line_of` meets its contract. Assumes nothing.
-use Prim.Native.Nat.{ℕ, ◌+◌, ◌-◌, ◌*◌, ◌≤◌, ◌<◌}
+use Prim.Native.Nat.{◌+◌, ◌-◌, ◌*◌, ◌≤◌}
 use native.Mathlib.Omega.{arith}
-use borrow.Author.Rules.{rules}
 use lib.Dec.{leb, ltb, leb→le, ltb→lt}
 use Rattle.numbers.proofs.Tests.{and_left, and_right}
 use Rattle.picture.proofs.Refusals.{in-limits}
@@ -23,38 +22,38 @@ returns-then-bottom-row c =
 
 pub overflow_mul-lo : goal.overflow_mul-lo
 overflow_mul-lo c =
-    let ends-f : c.args.row * c.args.size.columns + c.args.size.columns ≤ 262144 = 
-        let s = c in
-        let lim = in-limits s.args.size s.requires.size in
-        row-start s.args.row s.args.size.rows s.args.size.columns (omega (arith, c.if-bottom-row.false, s.requires.rows.within)) lim.few_rows lim.few_columns in
+    let ends-f : c.args.row * c.args.size.columns + c.args.size.columns ≤ 262144 =
+    let s = c in
+    let lim = in-limits s.args.size s.requires.size in
+    row-start s.args.row s.args.size.rows s.args.size.columns (omega (arith, c.if-bottom-row.false, s.requires.rows.within)) lim.few_rows lim.few_columns in
     omega (arith, ends-f)
 
 pub overflow_mul-at : goal.overflow_mul-at
 overflow_mul-at c =
-    let ends-g : (c.args.counting.other + (c.args.row - c.args.counting.first)) * c.args.size.columns + c.args.size.columns ≤ 262144 = 
-        let s = c in
-        let o = s.args.counting in
-        let lim = in-limits s.args.size s.requires.size in
-        row-start (o.other + (s.args.row - o.first)) s.args.size.rows s.args.size.columns
-        (other-inside o.first o.end o.other s.args.row s.args.size.rows c.if-row-top.false c.if-bottom-row.false s.requires.rows.other_within) lim.few_rows lim.few_columns in
+    let ends-g : (c.args.counting.other + (c.args.row - c.args.counting.first)) * c.args.size.columns + c.args.size.columns ≤ 262144 =
+    let s = c in
+    let o = s.args.counting in
+    let lim = in-limits s.args.size s.requires.size in
+    row-start (o.other + (s.args.row - o.first)) s.args.size.rows s.args.size.columns
+    (other-inside o.first o.end o.other s.args.row s.args.size.rows c.if-row-top.false c.if-bottom-row.false s.requires.rows.other_within) lim.few_rows lim.few_columns in
     omega (arith, ends-g)
 
 pub overflow_add-result : goal.overflow_add-result
 overflow_add-result c =
-    let ends-f : c.args.row * c.args.size.columns + c.args.size.columns ≤ 262144 = 
-        let s = c in
-        let lim = in-limits s.args.size s.requires.size in
-        row-start s.args.row s.args.size.rows s.args.size.columns (omega (arith, c.if-bottom-row.false, s.requires.rows.within)) lim.few_rows lim.few_columns in
+    let ends-f : c.args.row * c.args.size.columns + c.args.size.columns ≤ 262144 =
+    let s = c in
+    let lim = in-limits s.args.size s.requires.size in
+    row-start s.args.row s.args.size.rows s.args.size.columns (omega (arith, c.if-bottom-row.false, s.requires.rows.within)) lim.few_rows lim.few_columns in
     omega (arith, ends-f, c.requires.columns.ordered, c.requires.columns.within)
 
 pub overflow_add-result-2 : goal.overflow_add-result-2
 overflow_add-result-2 c =
-    let ends-g : (c.args.counting.other + (c.args.row - c.args.counting.first)) * c.args.size.columns + c.args.size.columns ≤ 262144 = 
-        let s = c in
-        let o = s.args.counting in
-        let lim = in-limits s.args.size s.requires.size in
-        row-start (o.other + (s.args.row - o.first)) s.args.size.rows s.args.size.columns
-        (other-inside o.first o.end o.other s.args.row s.args.size.rows c.if-row-top.false c.if-bottom-row.false s.requires.rows.other_within) lim.few_rows lim.few_columns in
+    let ends-g : (c.args.counting.other + (c.args.row - c.args.counting.first)) * c.args.size.columns + c.args.size.columns ≤ 262144 =
+    let s = c in
+    let o = s.args.counting in
+    let lim = in-limits s.args.size s.requires.size in
+    row-start (o.other + (s.args.row - o.first)) s.args.size.rows s.args.size.columns
+    (other-inside o.first o.end o.other s.args.row s.args.size.rows c.if-row-top.false c.if-bottom-row.false s.requires.rows.other_within) lim.few_rows lim.few_columns in
     omega (arith, ends-g, c.requires.columns.other_within)
 
 pub returns : goal.returns

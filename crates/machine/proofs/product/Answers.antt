@@ -1,8 +1,4 @@
 -- `machine::product` meets its contract. Assumes nothing.
-use mathlib.Core.Path.{◌≡◌}
-use lib.IntN.{ℤ, ◌*ℤ◌}
-use mir.Syntax.{w16, w32, w64}
-use mir.Val.{SFits}
 use mir.Facts.{to_z-of_z}
 use Rattle.numbers.proofs.Widths.{fits-16-32, fits_32_64, product-fits}
 use Rattle.machine.proofs.product.Goals as goal

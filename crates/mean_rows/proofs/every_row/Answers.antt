@@ -1,33 +1,30 @@
 -- `mean_rows::every_row` meets its contract. Assumes nothing.
-use borrow.Author.Rules.{rules}
-use mathlib.Core.Path.{◌≡◌, refl, sym, ◌∙◌, subst}
-use Prim.Native.Nat.{ℕ, ◌+◌, ◌-◌, ◌*◌, ◌%◌, ◌≤◌}
+use mathlib.Core.Path.{◌≡◌, sym, ◌∙◌, subst}
+use Prim.Native.Nat.{ℕ, ◌+◌, ◌-◌, ◌%◌, ◌≤◌}
 use native.Mathlib.Nat.{mod-lt}
 use native.Mathlib.Omega.{arith}
 use native.Mathlib.Numerals.{add-one}
 use lib.ListN.{length, take, drop}
-use Rattle.numbers.proofs.Lines.{Lines, lines_none, lines-all, line-end, line-next}
+use Rattle.numbers.proofs.Lines.{lines-all, line-end, line-next}
 use Rattle.numbers.proofs.Writes.{slice-length}
 use Rattle.picture.specs.Picture.{Inputs}
-use Rattle.picture.proofs.Refusals.{in-limits}
 use Rattle.statistics.specs.SixSums.{on_plane, six_sums}
 use Rattle.statistics.specs.Moments.{mean}
 use Rattle.smoothed.specs.Smoothing.{alone, smoothed}
 use Rattle.blocks.specs.Blocks.{Held}
-use Rattle.blocks.proofs.RowSums.{on-plane, held_none}
 use Rattle.mean_rows.proofs.RowMeans.{row_of, put-line, row-asked, row-mean}
 use Rattle.mean_rows.proofs.every_row.Goals as goal
 
 pub row_means-requires : goal.row_means-requires
 row_means-requires c =
-    let ends : c.loop-i.start + c.args.size.columns ≤ length c.loop-i.out = 
-        let l = c.loop-i in
-        omega (arith, l.invariant.1, l.invariant.6, c.requires.picture.full, line-end l.i c.args.size.rows c.args.size.columns c.loop-i-test.true) in
-    let room : length (take (c.loop-i.start + c.args.size.columns - c.loop-i.start) (drop c.loop-i.start c.loop-i.out)) ≡ c.args.size.columns = 
-        let lo = c.loop-i.start in
-        let columns = c.args.size.columns in
-        let span : lo + columns - lo ≡ columns = omega arith in
-        slice-length lo (lo + columns) c.loop-i.out (omega arith) ends ∙ span in
+    let ends : c.loop-i.start + c.args.size.columns ≤ length c.loop-i.out =
+    let l = c.loop-i in
+    omega (arith, l.invariant.1, l.invariant.6, c.requires.picture.full, line-end l.i c.args.size.rows c.args.size.columns c.loop-i-test.true) in
+    let room : length (take (c.loop-i.start + c.args.size.columns - c.loop-i.start) (drop c.loop-i.start c.loop-i.out)) ≡ c.args.size.columns =
+    let lo = c.loop-i.start in
+    let columns = c.args.size.columns in
+    let span : lo + columns - lo ≡ columns = omega arith in
+    slice-length lo (lo + columns) c.loop-i.out (omega arith) ends ∙ span in
     let counted = c.next in
     let summed = c.next-in-loop-i in
     let n = row_of (c.loop-i.i % 16) c.args.size.columns counted.new.block (counted.auto.block ∙ c.loop-i.invariant.4) (mod-lt c.loop-i.i (omega arith)) in
@@ -38,14 +35,14 @@ row_means-requires c =
 pub loop-i-preserved : goal.loop-i-preserved
 loop-i-preserved c =
     let given : Inputs = alone c.args.size c.args.f.now c.args.window in
-    let ends : c.loop-i.start + c.args.size.columns ≤ length c.loop-i.out = 
-        let l = c.loop-i in
-        omega (arith, l.invariant.1, l.invariant.6, c.requires.picture.full, line-end l.i c.args.size.rows c.args.size.columns c.loop-i-test.true) in
-    let room : length (take (c.loop-i.start + c.args.size.columns - c.loop-i.start) (drop c.loop-i.start c.loop-i.out)) ≡ c.args.size.columns = 
-        let lo = c.loop-i.start in
-        let columns = c.args.size.columns in
-        let span : lo + columns - lo ≡ columns = omega arith in
-        slice-length lo (lo + columns) c.loop-i.out (omega arith) ends ∙ span in
+    let ends : c.loop-i.start + c.args.size.columns ≤ length c.loop-i.out =
+    let l = c.loop-i in
+    omega (arith, l.invariant.1, l.invariant.6, c.requires.picture.full, line-end l.i c.args.size.rows c.args.size.columns c.loop-i-test.true) in
+    let room : length (take (c.loop-i.start + c.args.size.columns - c.loop-i.start) (drop c.loop-i.start c.loop-i.out)) ≡ c.args.size.columns =
+    let lo = c.loop-i.start in
+    let columns = c.args.size.columns in
+    let span : lo + columns - lo ≡ columns = omega arith in
+    slice-length lo (lo + columns) c.loop-i.out (omega arith) ends ∙ span in
     let l = c.loop-i in
     let z = c.args.size in
     let counted = c.next in

@@ -1,21 +1,12 @@
 -- What the loops of `mean_rows::every_row` keep. Assumes nothing.
-use borrow.Author.Rules.{rules}
-use mathlib.Core.Path.{◌≡◌, refl, sym, ◌∙◌, subst}
-use Prim.Native.Nat.{ℕ, ◌+◌, ◌-◌, ◌*◌, ◌%◌, ◌≤◌}
-use native.Mathlib.Nat.{mod-lt}
-use native.Mathlib.Omega.{arith}
-use native.Mathlib.Numerals.{add-one}
-use lib.ListN.{length, take, drop}
-use Rattle.numbers.proofs.Lines.{Lines, lines_none, lines-all, line-end, line-next}
-use Rattle.numbers.proofs.Writes.{slice-length}
-use Rattle.picture.specs.Picture.{Inputs}
-use Rattle.picture.proofs.Refusals.{in-limits}
+use mathlib.Core.Path.{◌≡◌}
+use Prim.Native.Nat.{◌-◌, ◌*◌, ◌≤◌}
+use lib.ListN.{length}
+use Rattle.numbers.proofs.Lines.{Lines}
 use Rattle.statistics.specs.SixSums.{on_plane, six_sums}
 use Rattle.statistics.specs.Moments.{mean}
-use Rattle.smoothed.specs.Smoothing.{alone, smoothed}
+use Rattle.smoothed.specs.Smoothing.{alone}
 use Rattle.blocks.specs.Blocks.{Held}
-use Rattle.blocks.proofs.RowSums.{on-plane, held_none}
-use Rattle.mean_rows.proofs.RowMeans.{row_of, put-line, row-asked, row-mean}
 use Rattle.mean_rows.proofs.every_row.Given as goal
 
 abbrev pub invariant-loop-i : goal.invariant-loop-i

@@ -1,5 +1,4 @@
 -- `moments::variance` meets its contract. Assumes nothing.
-use borrow.Author.Rules.{rules}
 use mathlib.Core.Path.{◌≡◌, ap, ◌∙◌}
 use mathlib.Core.Option.{some}
 use Prim.Native.Nat.{◌^◌, ◌<◌}

@@ -1,16 +1,13 @@
 -- `narrow_finish::finish_tips` meets its contract. Assumes nothing.
-use borrow.Author.Rules.{rules}
 use mathlib.Core.Path.{◌∙◌, ap₂}
-use Prim.Native.Nat.{◌+◌, ◌-◌, ◌<◌}
+use Prim.Native.Nat.{◌+◌}
 use native.Mathlib.Omega.{arith}
 use lib.IntN.{ℤ, ◌+ℤ◌}
-use lib.ListN.{length}
 use mir.Facts.{to_z-of_z}
 use mir.Syntax.{w16, w32, w64}
 use mir.Val.{SFits}
 use Rattle.numbers.specs.Wrap.{wrap}
-use Rattle.numbers.proofs.Writes.{at, Upto, upto-none, upto-more, upto_all}
-use Rattle.slopes.specs.Leans.{taken_tips}
+use Rattle.numbers.proofs.Writes.{at, upto-more, upto_all}
 use Rattle.narrow_finish.proofs.finish_tips.Goals as goal
 
 pub loop-j-preserved : goal.loop-j-preserved

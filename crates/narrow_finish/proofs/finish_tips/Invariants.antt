@@ -1,15 +1,7 @@
 -- What the loops of `narrow_finish::finish_tips` keep. Assumes nothing.
-use borrow.Author.Rules.{rules}
-use mathlib.Core.Path.{◌∙◌, ap₂}
-use Prim.Native.Nat.{◌+◌, ◌-◌, ◌<◌}
-use native.Mathlib.Omega.{arith}
-use lib.IntN.{ℤ, ◌+ℤ◌}
+use Prim.Native.Nat.{◌-◌}
 use lib.ListN.{length}
-use mir.Facts.{to_z-of_z}
-use mir.Syntax.{w16, w32, w64}
-use mir.Val.{SFits}
-use Rattle.numbers.specs.Wrap.{wrap}
-use Rattle.numbers.proofs.Writes.{at, Upto, upto-none, upto-more, upto_all}
+use Rattle.numbers.proofs.Writes.{Upto}
 use Rattle.slopes.specs.Leans.{taken_tips}
 use Rattle.narrow_finish.proofs.finish_tips.Given as goal
 

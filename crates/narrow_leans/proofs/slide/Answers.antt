@@ -1,16 +1,13 @@
 -- `narrow_leans::slide` meets its contract. Assumes nothing.
-use borrow.Author.Rules.{rules}
 use mathlib.Core.Path.{◌≡◌, ◌∙◌, ap}
-use Prim.Native.Nat.{ℕ, ◌+◌, ◌-◌, ◌^◌, ◌≤◌, ◌<◌}
+use Prim.Native.Nat.{ℕ, ◌+◌}
 use native.Mathlib.Omega.{arith}
 use lib.IntN.{ℤ, ◌+ℤ◌, ◌-ℤ◌}
-use lib.Signed.{mag}
 use mir.Facts.{to_z-of_z}
 use mir.Syntax.{w16, w32}
 use mir.Val.{SFits}
 use Rattle.numbers.proofs.Writes.{at}
-use Rattle.slopes.specs.Leans.{Moved, slid}
-use Rattle.slopes.proofs.Loops.{moved_none, moved-next, moved_more, mag-add, mag-sub, add_turned}
+use Rattle.slopes.proofs.Loops.{moved-next, moved_more, add_turned}
 use Rattle.narrow_leans.proofs.slide.Goals as goal
 
 pub loop-x-preserved : goal.loop-x-preserved
@@ -19,12 +16,12 @@ loop-x-preserved c =
     let sum : ℤ = at c.args.sums.now (x + c.args.s) in
     let enter : ℤ = at c.args.a.now (x + c.args.pa) in
     let leave : ℤ = at c.args.b.now (x + c.args.pb) in
-    let half : c.gain.result ≡ sum +ℤ (enter -ℤ leave) = 
-        let l = c.loop-x in
-        let f : SFits w32 (at l.sums (x + c.args.s)) = record { sfits = c.gain-arg-1.given } in
-        let a : SFits w16 enter = record { sfits = c.gain-arg-in-loop-x-1.given } in
-        let b : SFits w16 leave = record { sfits = c.gain-arg-in-loop-x-2-1.given } in
-        simp (to_z-of_z, f, a, b) at c.gain.ensures ∙ ap (λ (z : ℤ). z +ℤ (enter -ℤ leave)) (moved-next l.invariant.1) in
+    let half : c.gain.result ≡ sum +ℤ (enter -ℤ leave) =
+    let l = c.loop-x in
+    let f : SFits w32 (at l.sums (x + c.args.s)) = record { sfits = c.gain-arg-1.given } in
+    let a : SFits w16 enter = record { sfits = c.gain-arg-in-loop-x-1.given } in
+    let b : SFits w16 leave = record { sfits = c.gain-arg-in-loop-x-2-1.given } in
+    simp (to_z-of_z, f, a, b) at c.gain.ensures ∙ ap (λ (z : ℤ). z +ℤ (enter -ℤ leave)) (moved-next l.invariant.1) in
     let one = c in
     let s = c in
     let l = one.loop-x in

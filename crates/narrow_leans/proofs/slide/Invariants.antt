@@ -1,16 +1,6 @@
 -- What the loops of `narrow_leans::slide` keep. Assumes nothing.
-use borrow.Author.Rules.{rules}
-use mathlib.Core.Path.{◌≡◌, ◌∙◌, ap}
-use Prim.Native.Nat.{ℕ, ◌+◌, ◌-◌, ◌^◌, ◌≤◌, ◌<◌}
-use native.Mathlib.Omega.{arith}
-use lib.IntN.{ℤ, ◌+ℤ◌, ◌-ℤ◌}
-use lib.Signed.{mag}
-use mir.Facts.{to_z-of_z}
-use mir.Syntax.{w16, w32}
-use mir.Val.{SFits}
-use Rattle.numbers.proofs.Writes.{at}
+use Prim.Native.Nat.{◌-◌, ◌≤◌}
 use Rattle.slopes.specs.Leans.{Moved, slid}
-use Rattle.slopes.proofs.Loops.{moved_none, moved-next, moved_more, mag-add, mag-sub, add_turned}
 use Rattle.narrow_leans.proofs.slide.Given as goal
 
 abbrev pub invariant-loop-x : goal.invariant-loop-x

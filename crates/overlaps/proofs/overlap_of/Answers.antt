@@ -1,6 +1,5 @@
 -- `overlaps::overlap_of` meets its contract. Assumes nothing.
-use borrow.Author.Rules.{rules}
-use mathlib.Core.Path.{◌≡◌, ◌∙◌, ap, sym, subst}
+use mathlib.Core.Path.{◌≡◌, sym, subst}
 use Prim.Native.Nat.{ℕ, ◌-◌}
 use native.Mathlib.Omega.{arith}
 use lib.IntN.{nat_abs}
@@ -8,7 +7,6 @@ use mir.Facts.{to_z-of_z}
 use mir.Syntax.{w64}
 use mir.Val.{SFits}
 use Rattle.numbers.proofs.Widths.{fits_32_64}
-use Rattle.overlaps.specs.declared.Overlap.{Overlap}
 use Rattle.overlaps.specs.Overlaps.{Overlapping}
 use Rattle.overlaps.proofs.Overlaps.{overlap-none, overlap-before, overlap-behind}
 use Rattle.overlaps.proofs.overlap_of.Goals as goal

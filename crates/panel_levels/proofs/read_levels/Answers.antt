@@ -1,5 +1,4 @@
 -- `panel_levels::read_levels` meets its contract. Assumes nothing.
-use borrow.Author.Rules.{rules}
 use mathlib.Core.Path.{◌≡◌, sym, ◌∙◌}
 use native.Mathlib.Omega.{arith}
 use mathlib.Core.Bool.{true}
@@ -10,9 +9,7 @@ use mir.Val.{SFits}
 use lib.Dec.{T}
 use Rattle.panel_language.specs.Panel.{is_level}
 use Rattle.panel_language.proofs.Legal.{is-level}
-use Prim.Native.Nat.{◌-◌}
-use lib.ListN.{length}
-use Rattle.panel_levels.proofs.Levels.{LevelsUpto, levels-first, level-missing, level-beyond, levels-more, levels-extra, levels-all}
+use Rattle.panel_levels.proofs.Levels.{level-missing, level-beyond, levels-more, levels-extra, levels-all}
 use borrow.Enum.Refused.{opened}
 use Rattle.std.proofs.Common.{ap, not}
 use Rattle.panel_levels.proofs.read_levels.Goals as goal
@@ -30,9 +27,9 @@ pub loop-k-preserved : goal.loop-k-preserved
 loop-k-preserved c =
     let fits : SFits w32 c.in-Number.level = record { sfits = c.in-Number.known_told-1-own.given.0.1 } in
     let taken : is_level c.in-Number.level ≡ true = sym (simp (to_z-of_z, fits) at c.is_between.ensures) ∙ not-false _ (ap not c.if-not-is_between.false) in
-    let small : SFits w16 c.in-Number.level = 
-        let t : T (is_level c.in-Number.level) = rw taken tt in
-        record { sfits = is-level c.in-Number.level t } in
+    let small : SFits w16 c.in-Number.level =
+    let t : T (is_level c.in-Number.level) = rw taken tt in
+    record { sfits = is-level c.in-Number.level t } in
     simp (to_z-of_z, fits, small)
     (levels-more _ _ _ _ _ _ c.loop-k.invariant (omega (arith, c.loop-k.invariant.size)) c.next.result c.next.ensures _ _ c.in-Number.is taken)
 

@@ -1,5 +1,5 @@
 -- `panel_print::digits` meets its contract: the number itself falls. Assumes nothing.
-use Rattle.std.proofs.Common.{◌≡◌, ◌*◌, ◌<◌, sym, arith, length, w64, Fits}
+use Rattle.std.proofs.Common.{sym, arith}
 use Rattle.panel_print.proofs.Bytes.{decimal-one, decimal-more, length-one, length_more, written_one, written-more, written_is}
 use Rattle.panel_print.proofs.+digits.Goals as goal
 

@@ -1,5 +1,4 @@
 -- `panel_print::field` meets its contract. Assumes nothing.
-use borrow.Author.Rules.{rules}
 use mir.Facts.{to_z-of_z}
 use Rattle.panel_language.specs.Text.{printed}
 use Rattle.panel_print.specs.Print.{Written}

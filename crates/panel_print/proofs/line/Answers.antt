@@ -1,7 +1,5 @@
 -- `panel_print::line` meets its contract. Assumes nothing.
-use borrow.Author.Rules.{rules}
 use Prim.Native.Nat.{◌+◌, ◌≤◌}
-use mathlib.Core.Path.{◌∙◌}
 use mathlib.Core.List.{[], ◌∷◌, ◌++◌}
 use mir.Facts.{to_z-of_z}
 use mir.Syntax.{w16}
@@ -9,10 +7,8 @@ use mir.Val.{SFits}
 use Rattle.numbers.proofs.Writes.{at}
 use Rattle.panel_language.specs.Text.{space, line_feed, printed}
 use Rattle.panel_print.specs.Print.{Written}
-use Prim.Native.Nat.{◌-◌}
 use native.Mathlib.Omega.{arith}
-use lib.ListN.{length}
-use Rattle.panel_print.proofs.Prints.{LineUpto, line_first, line-more, line-done}
+use Rattle.panel_print.proofs.Prints.{line_first, line-more, line-done}
 use Rattle.panel_print.proofs.line.Goals as goal
 
 pub loop-k-init : goal.loop-k-init
@@ -20,10 +16,10 @@ loop-k-init c = line_first _ _ _ c.requires.some_column
 
 pub loop-k-preserved : goal.loop-k-preserved
 loop-k-preserved c =
-    let wrote : let l = c in Written (printed (at l.args.row.now l.loop-k.k) ++ (space ∷ [])) l.loop-k.out l.loop-k.place c.field-place.new.out c.field-place.result × (c.field-place.result ≤ l.loop-k.place + 7) = 
-        let l = c in
-        let f : SFits w16 (at l.args.row.now l.loop-k.k) = record { sfits = c.field-arg-1.given } in
-        simp (to_z-of_z, f) at c.field-place.ensures in
+    let wrote : let l = c in Written (printed (at l.args.row.now l.loop-k.k) ++ (space ∷ [])) l.loop-k.out l.loop-k.place c.field-place.new.out c.field-place.result × (c.field-place.result ≤ l.loop-k.place + 7) =
+    let l = c in
+    let f : SFits w16 (at l.args.row.now l.loop-k.k) = record { sfits = c.field-arg-1.given } in
+    simp (to_z-of_z, f) at c.field-place.ensures in
     let f = c in
     let l = c in
     let w = wrote in
@@ -31,10 +27,10 @@ loop-k-preserved c =
 
 pub returns : goal.returns
 returns c =
-    let ended : let l = c in Written (printed (at l.args.row.now l.loop-k.k) ++ (line_feed ∷ [])) l.loop-k.out l.loop-k.place c.field.new.out c.field.result × (c.field.result ≤ l.loop-k.place + 7) = 
-        let l = c in
-        let f : SFits w16 (at l.args.row.now l.loop-k.k) = record { sfits = c.field-arg-2-1.given } in
-        simp (to_z-of_z, f) at c.field.ensures in
+    let ended : let l = c in Written (printed (at l.args.row.now l.loop-k.k) ++ (line_feed ∷ [])) l.loop-k.out l.loop-k.place c.field.new.out c.field.result × (c.field.result ≤ l.loop-k.place + 7) =
+    let l = c in
+    let f : SFits w16 (at l.args.row.now l.loop-k.k) = record { sfits = c.field-arg-2-1.given } in
+    simp (to_z-of_z, f) at c.field.ensures in
     let f = c in
     let l = c in
     let w = ended in

@@ -1,9 +1,5 @@
 -- `panel_print::lines` meets its contract. Assumes nothing.
-use borrow.Author.Rules.{rules}
-use Prim.Native.Nat.{◌+◌, ◌-◌, ◌≤◌}
-use native.Mathlib.Omega.{arith}
-use lib.ListN.{length}
-use Rattle.panel_print.proofs.Prints.{LinesUpto, lines-first, row-part, row_room, lines_next, lines-done}
+use Rattle.panel_print.proofs.Prints.{lines_next, lines-done}
 use Rattle.panel_print.proofs.lines.Goals as goal
 
 pub loop-i-preserved : goal.loop-i-preserved

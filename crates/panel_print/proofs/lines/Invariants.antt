@@ -1,9 +1,6 @@
 -- What the loops of `panel_print::lines` keep. Assumes nothing.
-use borrow.Author.Rules.{rules}
-use Prim.Native.Nat.{◌+◌, ◌-◌, ◌≤◌}
-use native.Mathlib.Omega.{arith}
-use lib.ListN.{length}
-use Rattle.panel_print.proofs.Prints.{LinesUpto, lines-first, row-part, row_room, lines_next, lines-done}
+use Prim.Native.Nat.{◌-◌}
+use Rattle.panel_print.proofs.Prints.{LinesUpto}
 use Rattle.panel_print.proofs.lines.Given as goal
 
 abbrev pub invariant-loop-i : goal.invariant-loop-i

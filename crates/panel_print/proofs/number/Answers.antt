@@ -1,5 +1,4 @@
 -- `panel_print::number` meets its contract. Assumes nothing.
-use borrow.Author.Rules.{rules}
 use mathlib.Core.Path.{◌≡◌, sym, ◌∙◌, ap}
 use native.Mathlib.Omega.{arith}
 use mathlib.Core.List.{◌∷◌, []}
@@ -13,18 +12,18 @@ use Rattle.panel_print.proofs.number.Goals as goal
 
 pub digits-requires : goal.digits-requires
 digits-requires c =
-    let size : c.magnitude-size.result ≡ nat_abs c.args.v = 
-        let f = c.ranges.v in
-        simp (to_z-of_z, f, fits_16_64 _ f) at c.magnitude-size.ensures in
+    let size : c.magnitude-size.result ≡ nat_abs c.args.v =
+    let f = c.ranges.v in
+    simp (to_z-of_z, f, fits_16_64 _ f) at c.magnitude-size.ensures in
     let m = c in
     let s = c in
     omega (arith, s.requires, level-digits _ s.ranges.v, ap (λ n. length (decimal n)) size)
 
 pub returns-then-v-ge0 : goal.returns-then-v-ge0
 returns-then-v-ge0 c =
-    let size : c.magnitude-size.result ≡ nat_abs c.args.v = 
-        let f = c.ranges.v in
-        simp (to_z-of_z, f, fits_16_64 _ f) at c.magnitude-size.ensures in
+    let size : c.magnitude-size.result ≡ nat_abs c.args.v =
+    let f = c.ranges.v in
+    simp (to_z-of_z, f, fits_16_64 _ f) at c.magnitude-size.ensures in
     let d = c in
     let m = c in
     let s = c in
@@ -32,18 +31,18 @@ returns-then-v-ge0 c =
 
 pub digits-requires-2 : goal.digits-requires-2
 digits-requires-2 c =
-    let size : c.magnitude-size.result ≡ nat_abs c.args.v = 
-        let f = c.ranges.v in
-        simp (to_z-of_z, f, fits_16_64 _ f) at c.magnitude-size.ensures in
+    let size : c.magnitude-size.result ≡ nat_abs c.args.v =
+    let f = c.ranges.v in
+    simp (to_z-of_z, f, fits_16_64 _ f) at c.magnitude-size.ensures in
     let m = c in
     let s = c in
     simp length-set (omega (arith, s.requires, level-digits _ s.ranges.v, ap (λ n. length (decimal n)) size))
 
 pub returns : goal.returns
 returns c =
-    let size : c.magnitude-size.result ≡ nat_abs c.args.v = 
-        let f = c.ranges.v in
-        simp (to_z-of_z, f, fits_16_64 _ f) at c.magnitude-size.ensures in
+    let size : c.magnitude-size.result ≡ nat_abs c.args.v =
+    let f = c.ranges.v in
+    simp (to_z-of_z, f, fits_16_64 _ f) at c.magnitude-size.ensures in
     let d = c in
     let m = c in
     let s = c in

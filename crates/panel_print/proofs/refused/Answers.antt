@@ -1,10 +1,6 @@
 -- `panel_print::refused` meets its contract. Assumes nothing.
-use borrow.Author.Rules.{rules}
-use mathlib.Core.Path.{◌∙◌}
-use Rattle.panel_language.specs.Text.{line_feed}
 use Rattle.panel_print.proofs.Bytes.{few-digits, word-length, refused-written}
 use native.Mathlib.Omega.{arith}
-use lib.ListN.{length-set}
 use Rattle.panel_print.proofs.refused.Goals as goal
 
 pub digits-last-requires : goal.digits-last-requires

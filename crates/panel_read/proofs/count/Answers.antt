@@ -1,6 +1,6 @@
 -- `panel_read::count` meets its contract. Assumes nothing.
 use mir.Facts.{to_z-of_z}
-use Rattle.panel_read.proofs.Drawings.{count-negative, count-signed, count_small, count-is}
+use Rattle.panel_read.proofs.Drawings.{count-negative, count-is}
 use Rattle.panel_read.proofs.count.Goals as goal
 
 pub returns-then-n-lt0 : goal.returns-then-n-lt0

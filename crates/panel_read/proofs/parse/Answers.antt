@@ -1,8 +1,7 @@
 -- `panel_read::parse` meets its contract. Assumes nothing.
-use borrow.Author.Rules.{rules}
 use mathlib.Core.Path.{◌∙◌}
 use Rattle.panel_language.proofs.Example.{longer}
-use Rattle.panel_read.proofs.Drawings.{no_size, size-read, size_fits}
+use Rattle.panel_read.proofs.Drawings.{no_size, size-read}
 use Rattle.panel_read.proofs.parse.Goals as goal
 
 pub returns-then-text-gt65536 : goal.returns-then-text-gt65536

@@ -1,8 +1,7 @@
 -- `panel_read::read_picture` meets its contract. Assumes nothing.
-use borrow.Author.Rules.{rules}
 use mathlib.Core.Path.{sym}
 use native.Mathlib.Omega.{arith}
-use Rattle.panel_read.proofs.Drawings.{cells-few, cells-room, cells-part, no-window, no-levels, window-beyond, picture-taken}
+use Rattle.panel_read.proofs.Drawings.{cells-few, cells-room, cells-part, no-levels, window-beyond, picture-taken}
 use Rattle.std.proofs.Common.{ap, not}
 use Rattle.panel_read.proofs.read_picture.Goals as goal
 

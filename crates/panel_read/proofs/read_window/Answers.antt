@@ -1,5 +1,4 @@
 -- `panel_read::read_window` meets its contract. Assumes nothing.
-use borrow.Author.Rules.{rules}
 use mir.Facts.{to_z-of_z}
 use mir.Syntax.{w32}
 use mir.Val.{SFits}

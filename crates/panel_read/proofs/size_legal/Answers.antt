@@ -1,5 +1,4 @@
 -- `panel_read::size_legal` meets its contract. Assumes nothing.
-use borrow.Author.Rules.{rules}
 use Rattle.numbers.proofs.Tests.{holds_of}
 use native.Mathlib.Omega.{arith}
 use Rattle.panel_read.proofs.Drawings.{small-cells, size-outside, size-inside}

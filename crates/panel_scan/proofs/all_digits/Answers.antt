@@ -1,11 +1,7 @@
 -- `panel_scan::all_digits` meets its contract. Assumes nothing.
-use borrow.Author.Rules.{rules}
-use Prim.Native.Nat.{◌≤◌, ◌-◌}
-use mathlib.Core.Path.{◌≡◌, refl, sym, ◌∙◌}
+use mathlib.Core.Path.{sym, ◌∙◌}
 use native.Mathlib.Omega.{arith}
 use borrow.Author.Tests.{not-true, not-false}
-use lib.ListN.{length, drop}
-use Rattle.panel_language.specs.Text.{all_digits}
 use Rattle.panel_scan.proofs.Digits.{digits_more, digits-not, digits-none}
 use Rattle.std.proofs.Common.{ap, not}
 use Rattle.panel_scan.proofs.all_digits.Goals as goal

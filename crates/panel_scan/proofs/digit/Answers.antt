@@ -1,5 +1,4 @@
 -- `panel_scan::digit` meets its contract. Assumes nothing.
-use borrow.Author.Rules.{rules}
 use native.Mathlib.Omega.{arith}
 use Rattle.panel_scan.proofs.Digits.{digit_low, digit-high}
 use Rattle.panel_scan.proofs.digit.Goals as goal

@@ -1,5 +1,4 @@
 -- `panel_scan::natural` meets its contract. Assumes nothing.
-use borrow.Author.Rules.{rules}
 use mathlib.Core.Path.{sym, ◌∙◌, ap}
 use mathlib.Core.Option.{some}
 use native.Mathlib.Omega.{arith}
@@ -7,7 +6,6 @@ use borrow.Author.Tests.{not-true, not-false}
 use lib.IntN.{pos}
 use mir.Syntax.{w32}
 use mir.Facts.{to_z_pos}
-use Rattle.numbers.proofs.Tests.{holds_of}
 use Rattle.panel_scan.proofs.Numbers.{natural-short, natural-long, natural-other, natural-digits}
 use Rattle.std.proofs.Common.{not}
 use Rattle.panel_scan.proofs.natural.Goals as goal

@@ -1,9 +1,6 @@
 -- `panel_scan::run_end` meets its contract. Assumes nothing.
-use borrow.Author.Rules.{rules}
-use Prim.Native.Nat.{◌-◌}
 use mathlib.Core.Path.{sym, ◌∙◌}
-use lib.ListN.{length}
-use Rattle.panel_scan.proofs.Runs.{RunUpto, upto-first, upto-more, upto-divider, upto-last}
+use Rattle.panel_scan.proofs.Runs.{upto-first, upto-more, upto-divider, upto-last}
 use Rattle.panel_scan.proofs.run_end.Goals as goal
 
 pub loop-i-init : goal.loop-i-init

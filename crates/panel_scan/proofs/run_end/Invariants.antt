@@ -1,9 +1,7 @@
 -- What the loops of `panel_scan::run_end` keep. Assumes nothing.
-use borrow.Author.Rules.{rules}
 use Prim.Native.Nat.{◌-◌}
-use mathlib.Core.Path.{sym, ◌∙◌}
 use lib.ListN.{length}
-use Rattle.panel_scan.proofs.Runs.{RunUpto, upto-first, upto-more, upto-divider, upto-last}
+use Rattle.panel_scan.proofs.Runs.{RunUpto}
 use Rattle.panel_scan.proofs.run_end.Given as goal
 
 abbrev pub invariant-loop-i : goal.invariant-loop-i

@@ -1,11 +1,6 @@
 -- `panel_scan::run_start` meets its contract. Assumes nothing.
-use borrow.Author.Rules.{rules}
-use Prim.Native.Nat.{◌-◌}
-use mathlib.Core.Path.{◌≡◌, refl, sym, ◌∙◌}
-use native.Mathlib.Omega.{arith}
-use borrow.Author.Tests.{not-true, not-false}
-use lib.ListN.{length, drop}
-use Rattle.panel_language.specs.Text.{runs}
+use mathlib.Core.Path.{sym, ◌∙◌}
+use borrow.Author.Tests.{not-false}
 use Rattle.panel_scan.proofs.Runs.{runs_past}
 use Rattle.std.proofs.Common.{ap, not}
 use Rattle.panel_scan.proofs.run_start.Goals as goal

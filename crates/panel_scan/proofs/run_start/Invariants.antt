@@ -1,12 +1,8 @@
 -- What the loops of `panel_scan::run_start` keep. Assumes nothing.
-use borrow.Author.Rules.{rules}
 use Prim.Native.Nat.{◌-◌}
-use mathlib.Core.Path.{◌≡◌, refl, sym, ◌∙◌}
-use native.Mathlib.Omega.{arith}
-use borrow.Author.Tests.{not-true, not-false}
+use mathlib.Core.Path.{◌≡◌}
 use lib.ListN.{length, drop}
 use Rattle.panel_language.specs.Text.{runs}
-use Rattle.panel_scan.proofs.Runs.{runs_past}
 use Rattle.panel_scan.proofs.run_start.Given as goal
 
 abbrev pub invariant-loop-i : goal.invariant-loop-i

@@ -1,9 +1,6 @@
 -- `panel_scan::value` meets its contract. Assumes nothing.
-use borrow.Author.Rules.{rules}
-use Prim.Native.Nat.{◌-◌}
 use native.Mathlib.Omega.{arith}
-use lib.ListN.{length}
-use Rattle.panel_scan.proofs.Digits.{Worth, digit_at, worth-none, worth-small, worth-more, worth-all}
+use Rattle.panel_scan.proofs.Digits.{digit_at, worth-small, worth-more, worth-all}
 use Rattle.panel_scan.proofs.value.Goals as goal
 
 pub overflow_mul-v : goal.overflow_mul-v

@@ -1,9 +1,7 @@
 -- What the loops of `panel_scan::value` keep. Assumes nothing.
-use borrow.Author.Rules.{rules}
 use Prim.Native.Nat.{◌-◌}
-use native.Mathlib.Omega.{arith}
 use lib.ListN.{length}
-use Rattle.panel_scan.proofs.Digits.{Worth, digit_at, worth-none, worth-small, worth-more, worth-all}
+use Rattle.panel_scan.proofs.Digits.{Worth}
 use Rattle.panel_scan.proofs.value.Given as goal
 
 abbrev pub invariant-loop-i : goal.invariant-loop-i

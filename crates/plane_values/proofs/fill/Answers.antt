@@ -1,13 +1,7 @@
 -- `plane_values::fill` meets its contract. Assumes nothing.
-use borrow.Author.Rules.{rules}
-use Prim.Native.Nat.{ℕ, ◌-◌}
 use native.Mathlib.Omega.{arith}
-use mathlib.Core.Path.{refl}
-use lib.ListN.{length}
-use mir.Syntax.{w64}
-use mir.Val.{to_z}
 use mir.Facts.{to_z-of_z}
-use Rattle.numbers.proofs.Writes.{Upto, upto-none, upto-more, upto_all}
+use Rattle.numbers.proofs.Writes.{upto_all}
 use Rattle.plane_values.proofs.fill.Goals as goal
 
 pub returns : goal.returns

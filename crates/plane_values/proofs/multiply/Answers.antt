@@ -1,16 +1,10 @@
 -- `plane_values::multiply` meets its contract. Assumes nothing.
-use borrow.Author.Rules.{rules}
-use Prim.Native.Nat.{ℕ, ◌-◌, ◌^◌, ◌<◌}
 use native.Mathlib.Omega.{arith}
-use mathlib.Core.Path.{◌≡◌}
-use lib.IntN.{ℤ, pos, ◌*ℤ◌}
-use lib.ListN.{length}
-use lib.Signed.{mag}
-use mir.Syntax.{w16, w32, w64}
-use mir.Val.{SFits, to_z, of_z}
+use mir.Syntax.{w16}
+use mir.Val.{SFits}
 use mir.Facts.{to_z-of_z}
 use Rattle.numbers.proofs.Widths.{fits-16-32, fits_32_64, product-fits}
-use Rattle.numbers.proofs.Writes.{at, Upto, upto-none, upto-more, upto_all}
+use Rattle.numbers.proofs.Writes.{at, upto-more, upto_all}
 use Rattle.plane_values.proofs.multiply.Goals as goal
 
 pub loop-k-preserved : goal.loop-k-preserved

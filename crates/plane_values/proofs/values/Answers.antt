@@ -1,5 +1,4 @@
 -- `plane_values::values` meets its contract. Assumes nothing.
-use borrow.Author.Rules.{rules}
 use native.Mathlib.Omega.{arith}
 use Rattle.plane_values.proofs.ByPlane.{plane-0, plane-1, plane-2, plane-3, plane-4, plane-5, tabulate-as}
 use Rattle.plane_values.proofs.values.Goals as goal

@@ -1,8 +1,6 @@
 -- `planes::part` meets its contract. Assumes nothing.
-use borrow.Author.Rules.{rules}
-use Prim.Native.Nat.{◌+◌, ◌-◌, ◌*◌, ◌≤◌, ◌^◌, ◌<◌}
+use Prim.Native.Nat.{◌+◌, ◌-◌, ◌*◌, ◌≤◌}
 use native.Mathlib.Omega.{arith}
-use native.Mathlib.Nat.{mul-le-mul}
 use lib.Dec.{leb, ltb, leb→le, ltb→lt}
 use lib.ListN.{length}
 use mir.Facts.{to_z-of_z}
@@ -11,7 +9,6 @@ use mir.Val.{SFits}
 use Rattle.numbers.proofs.Tests.{and_left, and_right}
 use Rattle.picture.specs.Picture.{Source, source}
 use Rattle.overlaps.specs.Overlaps.{Overlapping}
-use Rattle.picture.proofs.Refusals.{in-limits}
 use Rattle.planes.proofs.RowParts.{part_none, part-some, row-end, other-inside}
 use Rattle.planes.proofs.part.Goals as goal
 
@@ -39,11 +36,11 @@ pub slice_bounds-row_part-end-2 : goal.slice_bounds-row_part-end-2
 slice_bounds-row_part-end-2 c =
     let down_fits : SFits w32 c.args.shift.down = record { sfits = c.struct_told-1.given.0.1 } in
     let down-overlaps : Overlapping c.args.size.rows c.args.shift.down c.overlap_of-counting.result = simp (to_z-of_z, down_fits) at c.overlap_of-counting.ensures in
-    let ends-g : (c.overlap_of-counting.result.other + (c.args.row - c.overlap_of-counting.result.first)) * c.args.size.columns + c.args.size.columns ≤ length c.args.g.now = 
-        let s = c in
-        let o = c.overlap_of-counting.result in
-        rw s.requires.length_g (row-end (o.other + (s.args.row - o.first)) s.args.size.rows s.args.size.columns
-        (other-inside o.first o.end o.other s.args.row s.args.size.rows c.if-row-top.false c.if-bottom-row.false down-overlaps.other_within)) in
+    let ends-g : (c.overlap_of-counting.result.other + (c.args.row - c.overlap_of-counting.result.first)) * c.args.size.columns + c.args.size.columns ≤ length c.args.g.now =
+    let s = c in
+    let o = c.overlap_of-counting.result in
+    rw s.requires.length_g (row-end (o.other + (s.args.row - o.first)) s.args.size.rows s.args.size.columns
+    (other-inside o.first o.end o.other s.args.row s.args.size.rows c.if-row-top.false c.if-bottom-row.false down-overlaps.other_within)) in
     omega (arith, ends-g)
 
 pub returns : goal.returns

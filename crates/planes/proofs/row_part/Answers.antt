@@ -1,5 +1,4 @@
 -- `planes::row_part` meets its contract. Assumes nothing.
-use borrow.Author.Rules.{rules}
 use lib.ListN.{length}
 use Rattle.planes.proofs.RowParts.{row-part-done}
 use Rattle.planes.proofs.row_part.Goals as goal

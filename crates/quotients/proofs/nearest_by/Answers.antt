@@ -8,7 +8,7 @@ use lib.Dec.{T}
 use lib.IntN.{ℤ, pos, negsuc, nat_abs, ◌+ℤ◌, ◌-ℤ◌, ◌*ℤ◌}
 use lib.Signed.{◌≤ℤ◌, non_neg}
 use mir.Syntax.{w64}
-use mir.Val.{Fits, SFits, to_z}
+use mir.Val.{SFits, to_z}
 use mir.Facts.{to_z-of_z, to_z_pos}
 use Rattle.wide.specs.declared.Product.{Product}
 use Rattle.wide.specs.Words.{value}

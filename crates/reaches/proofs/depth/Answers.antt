@@ -1,5 +1,4 @@
 -- `reaches::depth` meets its contract. Assumes nothing.
-use borrow.Author.Rules.{rules}
 use mathlib.Core.Path.{◌∙◌}
 use native.Mathlib.Omega.{arith}
 use Rattle.picture.proofs.Shapes.{depth-of-rectangle, depth-of-slanted}

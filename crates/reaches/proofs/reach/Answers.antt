@@ -1,8 +1,6 @@
 -- `reaches::reach` meets its contract. Assumes nothing.
 use mathlib.Core.Path.{◌∙◌}
-use Prim.Native.Nat.{◌-◌}
 use native.Mathlib.Omega.{arith}
-use borrow.Author.Rules.{rules}
 use Rattle.picture.proofs.Shapes.{reach-of-rectangle, reach-of-slanted}
 use Rattle.reaches.proofs.reach.Goals as goal
 

@@ -1,5 +1,5 @@
 -- What the loops of `rival::sum` keep. Assumes nothing.
-use Rattle.std.proofs.Common.{◌-◌, ◌≤◌, rules}
+use Rattle.std.proofs.Common.{◌-◌, ◌≤◌}
 use Rattle.rival.proofs.sum.Given as goal
 
 abbrev pub invariant-loop-m : goal.invariant-loop-m

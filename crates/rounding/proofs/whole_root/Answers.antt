@@ -1,10 +1,10 @@
 -- `rounding::whole_root` meets its contract. Assumes nothing.
-use Prim.Native.Nat.{ℕ, ◌+◌, ◌*◌, ◌-◌, ◌/◌, ◌≤◌}
+use Prim.Native.Nat.{ℕ, ◌*◌, ◌≤◌}
 use native.Mathlib.Omega.{arith}
 use native.Mathlib.Nat.{mul-le-mul}
 use mir.Syntax.{w64}
 use mir.Val.{Fits}
-use Rattle.statistics.proofs.Halving.{Between, start, first-half, second-half, found}
+use Rattle.statistics.proofs.Halving.{found}
 use Rattle.rounding.proofs.whole_root.Goals as goal
 
 square-fits : (m : ℕ) → m ≤ 32768 → Fits w64 (m * m)

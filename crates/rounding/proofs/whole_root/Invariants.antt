@@ -1,10 +1,6 @@
 -- What the loops of `rounding::whole_root` keep. Assumes nothing.
-use Prim.Native.Nat.{ℕ, ◌+◌, ◌*◌, ◌-◌, ◌/◌, ◌≤◌}
-use native.Mathlib.Omega.{arith}
-use native.Mathlib.Nat.{mul-le-mul}
-use mir.Syntax.{w64}
-use mir.Val.{Fits}
-use Rattle.statistics.proofs.Halving.{Between, start, first-half, second-half, found}
+use Prim.Native.Nat.{◌-◌}
+use Rattle.statistics.proofs.Halving.{Between}
 use Rattle.rounding.proofs.whole_root.Given as goal
 
 abbrev pub invariant-loop-low : goal.invariant-loop-low

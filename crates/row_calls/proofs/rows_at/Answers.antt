@@ -1,15 +1,12 @@
 -- `row_calls::rows_at` meets its contract. Assumes nothing.
-use borrow.Author.Rules.{rules}
 use mathlib.Core.Path.{◌≡◌, refl, sym, ap, ◌∙◌}
 use mathlib.Core.Option.{none}
-use Prim.Native.Nat.{ℕ, ◌+◌, ◌≤◌, ◌<◌}
 use native.Mathlib.Omega.{arith}
-use lib.IntN.{ℤ}
-use Rattle.picture.specs.Refusal.{Outcome, answered, refusal}
+use Rattle.picture.specs.Refusal.{refusal}
 use Rattle.picture.specs.Window.{shape_of}
 use Rattle.picture.specs.Picture.{Inputs, inputs, plane_at}
 use Rattle.picture.proofs.Refusals.{accepted-has, in-limits}
-use Rattle.session.specs.Rows.{RowOutcome, Strip, strip, row_checks, row_call}
+use Rattle.session.specs.Rows.{RowOutcome, strip, row_checks}
 use Rattle.row_calls.proofs.Checked.{Granted, granted-has, call-taken, call-number, call-granted}
 use Rattle.row_calls.proofs.rows_at.Goals as goal
 

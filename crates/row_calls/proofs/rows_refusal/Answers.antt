@@ -1,13 +1,9 @@
 -- `row_calls::rows_refusal` meets its contract. Assumes nothing.
-use borrow.Author.Rules.{rules}
-use mathlib.Core.Path.{◌≡◌, sym, ◌∙◌}
-use mathlib.Core.Bool.{Bool, true, false, not, ◌||◌}
-use Prim.Native.Nat.{ℕ, ◌-◌, ◌*◌, ◌≤◌, ◌<◌}
+use mathlib.Core.Path.{sym, ◌∙◌}
+use mathlib.Core.Bool.{true, false}
+use Prim.Native.Nat.{◌≤◌}
 use native.Mathlib.Omega.{arith}
 use native.Mathlib.Nat.{mul-le-mul}
-use lib.Dec.{T, ltb, eqb, lt→ltb, eqb→eq}
-use lib.ListN.{length}
-use borrow.Author.Tests.{le-ltb, lt-ltb, eq-eqb, ne_eqb}
 use Rattle.picture.specs.Picture.{Inputs, inputs}
 use Rattle.picture.proofs.Refusals.{in-limits, accepted-has, number-none, number-stop-on, number-pass-on, number-before, number-after, number-0}
 use Rattle.row_calls.proofs.Checked.{seven-position, seven-request, seven-passes, eight-holds, eight-passes}

@@ -1,16 +1,15 @@
 -- `row_sums::first_row` meets its contract. Assumes nothing.
 use mathlib.Core.Path.{◌≡◌, sym, ◌∙◌, ap}
-use Prim.Native.Nat.{ℕ, suc, ◌-◌}
+use Prim.Native.Nat.{ℕ, suc}
 use native.Mathlib.Numerals.{add-one}
 use native.Mathlib.Omega.{arith}
-use borrow.Author.Rules.{rules}
 use mir.Facts.{to_z-of_z}
 use mir.Syntax.{w64}
 use mir.Val.{SFits, to_z, of_z}
 use Rattle.numbers.specs.Sum.{sum_to}
 use Rattle.numbers.specs.Wrap.{wrap}
 use Rattle.numbers.proofs.Running.{running_none, running_more}
-use Rattle.numbers.proofs.Writes.{at, Upto, upto-none, upto-more}
+use Rattle.numbers.proofs.Writes.{at, upto-none, upto-more}
 use Rattle.row_sums.proofs.first_row.Goals as goal
 
 pub loop-j-init : goal.loop-j-init

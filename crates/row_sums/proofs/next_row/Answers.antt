@@ -4,7 +4,6 @@ use Prim.Native.Nat.{ℕ, suc, ◌+◌, ◌-◌}
 use native.Mathlib.Numerals.{add-one}
 use native.Mathlib.Omega.{arith}
 use lib.IntN.{ℤ, ◌+ℤ◌}
-use borrow.Author.Rules.{rules}
 use mir.Facts.{to_z-of_z}
 use mir.Syntax.{w64}
 use mir.Val.{SFits, to_z, of_z}
@@ -13,7 +12,7 @@ use Rattle.numbers.specs.Wrap.{wrap}
 use Rattle.numbers.proofs.Running.{running_none, running_more}
 use Rattle.numbers.proofs.Writes.{at}
 use Rattle.row_sums.specs.RowSums.{row_from, next_number}
-use Rattle.row_sums.proofs.Written.{next-number, Written, written_none, written-more}
+use Rattle.row_sums.proofs.Written.{next-number, written_none, written-more}
 use Rattle.row_sums.proofs.next_row.Goals as goal
 
 pub loop-j-init : goal.loop-j-init

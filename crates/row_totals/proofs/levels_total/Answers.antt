@@ -1,16 +1,11 @@
 -- `row_totals::levels_total` meets its contract. Assumes nothing.
-use borrow.Author.Rules.{rules}
-use mathlib.Core.Path.{◌≡◌, ◌∙◌, ap}
-use Prim.Native.Nat.{ℕ, ◌-◌, ◌≤◌}
 use native.Mathlib.Omega.{arith}
-use lib.ListN.{length}
-use mir.Syntax.{w16, w32}
-use mir.Val.{SFits, to_z}
+use mir.Syntax.{w16}
+use mir.Val.{SFits}
 use mir.Facts.{to_z-of_z}
-use Rattle.numbers.specs.Sum.{sum_to}
 use Rattle.numbers.proofs.Widths.{fits-16-32}
 use Rattle.numbers.proofs.Writes.{at}
-use Rattle.row_totals.proofs.Totals.{Exact, exact_none, exact-more, exact-fits, exact-64}
+use Rattle.row_totals.proofs.Totals.{exact_none, exact-more, exact-fits}
 use Rattle.row_totals.proofs.levels_total.Goals as goal
 
 pub loop-k-init : goal.loop-k-init

@@ -1,16 +1,8 @@
 -- What the loops of `row_totals::levels_total` keep. Assumes nothing.
-use borrow.Author.Rules.{rules}
-use mathlib.Core.Path.{◌≡◌, ◌∙◌, ap}
-use Prim.Native.Nat.{ℕ, ◌-◌, ◌≤◌}
-use native.Mathlib.Omega.{arith}
+use Prim.Native.Nat.{◌-◌, ◌≤◌}
 use lib.ListN.{length}
-use mir.Syntax.{w16, w32}
-use mir.Val.{SFits, to_z}
-use mir.Facts.{to_z-of_z}
-use Rattle.numbers.specs.Sum.{sum_to}
-use Rattle.numbers.proofs.Widths.{fits-16-32}
 use Rattle.numbers.proofs.Writes.{at}
-use Rattle.row_totals.proofs.Totals.{Exact, exact_none, exact-more, exact-fits, exact-64}
+use Rattle.row_totals.proofs.Totals.{Exact}
 use Rattle.row_totals.proofs.levels_total.Given as goal
 
 abbrev pub invariant-loop-k : goal.invariant-loop-k

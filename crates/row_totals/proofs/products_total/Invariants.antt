@@ -1,18 +1,11 @@
 -- What the loops of `row_totals::products_total` keep. Assumes nothing.
-use borrow.Author.Rules.{rules}
-use mathlib.Core.Path.{◌≡◌, sym, ◌∙◌, ap}
-use Prim.Native.Nat.{ℕ, ◌-◌, ◌≤◌}
-use native.Mathlib.Numerals.{add-one}
-use native.Mathlib.Omega.{arith}
-use lib.IntN.{ℤ, ◌+ℤ◌, ◌*ℤ◌}
+use mathlib.Core.Path.{◌≡◌}
+use Prim.Native.Nat.{◌-◌, ◌≤◌}
+use lib.IntN.{◌*ℤ◌}
 use lib.ListN.{length}
-use mir.Syntax.{w16, w64}
-use mir.Val.{SFits, to_z}
-use mir.Facts.{to_z-of_z}
 use Rattle.numbers.specs.Sum.{sum_to}
 use Rattle.numbers.specs.Wrap.{wrap}
 use Rattle.numbers.proofs.Writes.{at}
-use Rattle.numbers.proofs.Running.{running_none, running_more}
 use Rattle.row_totals.proofs.products_total.Given as goal
 
 abbrev pub invariant-loop-k : goal.invariant-loop-k

@@ -1,40 +1,35 @@
 -- `search::by_blocks` meets its contract. Assumes nothing.
 use mathlib.Core.Path.{◌≡◌, refl, sym, ap, ◌∙◌}
-use mathlib.Core.List.{List}
-use Prim.Native.Nat.{ℕ, ◌-◌, ◌*◌, ◌%◌, ◌≤◌, ◌<◌}
+use Prim.Native.Nat.{◌-◌, ◌*◌, ◌%◌, ◌≤◌}
 use native.Mathlib.Nat.{mul-le-mul_right}
 use native.Mathlib.Omega.{arith}
-use lib.ListN.{length}
-use lib.IntN.{ℤ}
 use Rattle.picture.specs.Refusal.{answered}
 use Rattle.picture.specs.Picture.{Inputs, inputs}
 use Rattle.picture.proofs.Refusals.{in-limits}
 use Rattle.statistics.specs.SixSums.{on_plane}
-use Rattle.smoothed.specs.Steady.{find_cell, first_steady}
-use Rattle.blocks.specs.Blocks.{ready, rows_in, Block}
-use Rattle.blocks.proofs.RowSums.{on-plane, block_of, held_first}
+use Rattle.blocks.specs.Blocks.{rows_in, Block}
+use Rattle.blocks.proofs.RowSums.{block_of}
 use Rattle.hearing.proofs.Searching.{no_row}
 use Rattle.search.proofs.Searching.{steady_at, whole-search}
-use Rattle.search.proofs.BlockRows.{few, within, count, start-behind, ready-behind, possible, in_block, behind-block}
-use Rattle.search.proofs.Kept.{Before}
+use Rattle.search.proofs.BlockRows.{few, start-behind, ready-behind, possible, in_block, behind-block}
 use Rattle.search.proofs.by_blocks.Goals as goal
 
 pub loop-i-init : goal.loop-i-init
 loop-i-init c =
     let given : Inputs = inputs c.args.size c.args.f.now c.args.g.now c.args.window c.args.shift 0 in
     record {
-  same = whole-search given;
-  start = λ h. refl;
-  ready_counts = tt;
-  ready_totals = tt;
-  ready_squares = tt;
-  room_counts = c.requires.room_counts;
-  room_totals = c.requires.room_totals;
-  room_squares = c.requires.room_squares;
-  room_n = c.requires.room_n;
-  room_s = c.requires.room_s;
-  room_a = c.requires.room_a;
-}
+      same = whole-search given;
+      start = λ h. refl;
+      ready_counts = tt;
+      ready_totals = tt;
+      ready_squares = tt;
+      room_counts = c.requires.room_counts;
+      room_totals = c.requires.room_totals;
+      room_squares = c.requires.room_squares;
+      room_n = c.requires.room_n;
+      room_s = c.requires.room_s;
+      room_a = c.requires.room_a;
+    }
 
 pub first-cell-requires : goal.first-cell-requires
 first-cell-requires c =

@@ -1,5 +1,5 @@
 -- What the loops of `session_trials::list` keep. Assumes nothing.
-use Rattle.std.proofs.Common.{◌-◌, ◌≤◌, rules}
+use Rattle.std.proofs.Common.{◌-◌, ◌≤◌}
 use Rattle.session_trials.proofs.list.Given as goal
 
 abbrev pub invariant-loop-k : goal.invariant-loop-k

@@ -1,5 +1,5 @@
 -- What the loops of `session_trials::lists` keep. Assumes nothing.
-use Rattle.std.proofs.Common.{◌-◌, ◌≤◌, rules}
+use Rattle.std.proofs.Common.{◌-◌, ◌≤◌}
 use Rattle.session_trials.proofs.lists.Given as goal
 
 abbrev pub invariant-loop-k : goal.invariant-loop-k

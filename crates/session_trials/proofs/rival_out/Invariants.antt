@@ -1,5 +1,5 @@
 -- What the loops of `session_trials::rival_out` keep. Assumes nothing.
-use Rattle.std.proofs.Common.{◌≡◌, ◌-◌, length, rules}
+use Rattle.std.proofs.Common.{◌≡◌, ◌-◌, length}
 use Rattle.session_trials.proofs.rival_out.Given as goal
 
 abbrev pub invariant-loop-k : goal.invariant-loop-k

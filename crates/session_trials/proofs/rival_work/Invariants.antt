@@ -1,5 +1,5 @@
 -- What the loops of `session_trials::rival_work` keep. Assumes nothing.
-use Rattle.std.proofs.Common.{◌≡◌, ◌-◌, length, rules}
+use Rattle.std.proofs.Common.{◌≡◌, ◌-◌, length}
 use Rattle.session_trials.proofs.rival_work.Given as goal
 
 abbrev pub invariant-loop-j : goal.invariant-loop-j

@@ -2,7 +2,6 @@
 use mathlib.Core.Path.{◌∙◌, ap₂}
 use mir.Syntax.{w32}
 use mir.Val.{SFits}
-use native.Mathlib.Omega.{arith}
 use Prim.Native.Nat.{◌+◌}
 use Rattle.picture.proofs.Shapes.{first-nonneg, first_small, second-nonneg, second-small, width-of-rectangle, width-of-diamond, width-of-hexagon, cast_same, cast_fits}
 use Rattle.shape.proofs.width.Goals as goal

@@ -1,8 +1,7 @@
 -- `slanted::edge` meets its contract. Assumes nothing.
-use borrow.Author.Rules.{rules}
-use mathlib.Core.Path.{◌≡◌, sym, ◌∙◌, ap}
+use mathlib.Core.Path.{◌≡◌, ◌∙◌, ap}
 use mathlib.Core.List.{List}
-use Prim.Native.Nat.{ℕ, ◌-◌, ◌*◌, ◌^◌, ◌≤◌, ◌<◌}
+use Prim.Native.Nat.{ℕ, ◌-◌, ◌<◌}
 use native.Mathlib.Omega.{arith}
 use lib.IntN.{ℤ}
 use lib.ListN.{length}
@@ -43,8 +42,8 @@ returns c =
     let length-once : length once ≡ columns = part_length distance columns c.args.work.now behind (omega (arith, c.requires.few)) (omega (arith, c.requires.step.room_work)) length-behind ∙ c.requires.step.room_work in
     let length_before : length before-it ≡ columns - distance - 0 = c.add-2.auto.work ∙ slice-length 0 (columns - distance) once (omega arith) (omega (arith, length-once)) in
     let entering : ℕ → ℤ = enter_leave c.args.size (plane_at (source c.args.size c.args.f.now c.args.g.now c.args.shift c.args.plane)) c.args.i (depth (shape_of c.args.window) distance) in
-    let changes-at : (k : ℕ) → k < columns → at changes k ≡ wrap (entering k) = 
-        λ k k-below. tabulate-at changes _ _ c.gain.ensures k (omega (arith, length-changes))
-        ∙ ap (λ (d : ℕ). wrap (enter_leave c.args.size (plane_at (source c.args.size c.args.f.now c.args.g.now c.args.shift c.args.plane)) c.args.i d k)) c.depth.ensures in
+    let changes-at : (k : ℕ) → k < columns → at changes k ≡ wrap (entering k) =
+    λ k k-below. tabulate-at changes _ _ c.gain.ensures k (omega (arith, length-changes))
+    ∙ ap (λ (d : ℕ). wrap (enter_leave c.args.size (plane_at (source c.args.size c.args.f.now c.args.g.now c.args.shift c.args.plane)) c.args.i d k)) c.depth.ensures in
     edge-done columns distance _ _ c.args.work.now changes behind before-it entering c.requires.some c.requires.few
     c.requires.step.room_work length-changes c.requires.wrapped changes-at c.add.ensures length-behind c.add-2.ensures length_before

@@ -1,16 +1,14 @@
 -- `slanted::next` meets its contract. Assumes nothing.
-use borrow.Author.Rules.{rules}
-use mathlib.Core.Path.{◌≡◌, sym, ap, ◌∙◌}
-use Prim.Native.Nat.{ℕ, suc, ◌+◌, ◌-◌, ◌≤◌, ◌<◌, min}
+use mathlib.Core.Path.{◌≡◌, ap, ◌∙◌}
+use Prim.Native.Nat.{ℕ, suc, ◌+◌, ◌-◌, min}
 use native.Mathlib.Omega.{arith}
 use lib.IntN.{ℤ}
-use lib.ListN.{length}
 use Rattle.picture.specs.Window.{shape_of, width, depth}
 use Rattle.picture.specs.Picture.{source, plane_at}
 use Rattle.picture.proofs.Refusals.{in-limits}
 use Rattle.picture.proofs.Windows.{depth_small}
 use Rattle.slanted.specs.Edges.{edges_to}
-use Rattle.slanted.proofs.EdgeRows.{later, edges-1, later-none, later_more, later-length, later-wrapped, later-all}
+use Rattle.slanted.proofs.EdgeRows.{edges-1, later-none, later_more, later-length, later-wrapped, later-all}
 use Rattle.slanted.proofs.next.Goals as goal
 
 pub high-end-requires : goal.high-end-requires
@@ -31,8 +29,7 @@ add_gain-requires c =
 pub loop-c-init : goal.loop-c-init
 loop-c-init c =
     let plane : ℕ → ℕ → ℤ = plane_at (source c.args.size c.args.f.now c.args.g.now c.args.shift c.args.plane) in
-    let begun : c.add_gain.new.sums ≡ edges_to c.args.size plane (shape_of c.args.window) c.args.i c.args.work.now 1 = edges-1 c.args.size plane (shape_of c.args.window) c.args.i c.args.work.now c.depth.result _ c.depth.ensures c.add_gain.ensures in
-    (
+    let begun : c.add_gain.new.sums ≡ edges_to c.args.size plane (shape_of c.args.window) c.args.i c.args.work.now 1 = edges-1 c.args.size plane (shape_of c.args.window) c.args.i c.args.work.now c.depth.result _ c.depth.ensures c.add_gain.ensures in (
       omega arith,
       omega (arith, c.high-end.ensures, (in-limits c.args.size c.requires.inputs.size).some_columns),
       c.requires.room,

@@ -1,16 +1,10 @@
 -- What the loops of `slanted::next` keep. Assumes nothing.
-use borrow.Author.Rules.{rules}
-use mathlib.Core.Path.{◌≡◌, sym, ap, ◌∙◌}
-use Prim.Native.Nat.{ℕ, suc, ◌+◌, ◌-◌, ◌≤◌, ◌<◌, min}
-use native.Mathlib.Omega.{arith}
-use lib.IntN.{ℤ}
+use mathlib.Core.Path.{◌≡◌}
+use Prim.Native.Nat.{◌-◌, ◌≤◌}
 use lib.ListN.{length}
-use Rattle.picture.specs.Window.{shape_of, width, depth}
+use Rattle.picture.specs.Window.{shape_of}
 use Rattle.picture.specs.Picture.{source, plane_at}
-use Rattle.picture.proofs.Refusals.{in-limits}
-use Rattle.picture.proofs.Windows.{depth_small}
-use Rattle.slanted.specs.Edges.{edges_to}
-use Rattle.slanted.proofs.EdgeRows.{later, edges-1, later-none, later_more, later-length, later-wrapped, later-all}
+use Rattle.slanted.proofs.EdgeRows.{later}
 use Rattle.slanted.proofs.next.Given as goal
 
 abbrev pub invariant-loop-c : goal.invariant-loop-c

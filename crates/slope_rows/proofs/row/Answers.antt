@@ -1,5 +1,4 @@
 -- `slope_rows::row` meets its contract. Assumes nothing.
-use borrow.Author.Rules.{rules}
 use Prim.Native.Nat.{ℕ, ◌+◌, ◌-◌, ◌^◌, ◌≤◌}
 use native.Mathlib.Omega.{arith}
 use lib.IntN.{nat_abs}
@@ -8,7 +7,7 @@ use Rattle.picture.proofs.Planes.{plane-level, plane-beside}
 use Rattle.slopes.specs.Slopes.{padded}
 use Rattle.slopes.proofs.Moves.{padded-bound}
 use Rattle.kept_slopes.proofs.Kept.{blank_of, slopes-next}
-use Rattle.kept_slopes.proofs.Asks.{limits, load-asked, rises-asked, falls-asked}
+use Rattle.kept_slopes.proofs.Asks.{limits, rises-asked, falls-asked}
 use Rattle.slope_rows.proofs.row.Goals as goal
 
 pub overflow_add-i : goal.overflow_add-i

@@ -1,16 +1,13 @@
 -- `slope_starts::first` meets its contract. Assumes nothing.
-use borrow.Author.Rules.{rules}
-use mathlib.Core.Path.{◌≡◌, sym, ◌∙◌, ap₂}
-use Prim.Native.Nat.{◌+◌, ◌-◌}
+use mathlib.Core.Path.{sym, ◌∙◌, ap₂}
+use Prim.Native.Nat.{◌+◌}
 use native.Mathlib.Omega.{arith}
 use lib.IntN.{ℤ, ◌+ℤ◌}
-use lib.ListN.{length}
 use mir.Facts.{to_z-of_z}
 use mir.Syntax.{w32, w64}
-use mir.Val.{SFits, to_z}
+use mir.Val.{SFits}
 use Rattle.numbers.specs.Wrap.{wrap}
-use Rattle.numbers.proofs.Writes.{at, Upto, upto-none, upto-more, upto_all}
-use Rattle.kept_slopes.specs.Edges.{across_slopes}
+use Rattle.numbers.proofs.Writes.{at, upto-none, upto-more, upto_all}
 use Rattle.kept_slopes.proofs.Across.{across-none, across-more}
 use Rattle.slope_starts.proofs.first.Goals as goal
 

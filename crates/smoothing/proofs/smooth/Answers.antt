@@ -1,5 +1,4 @@
 -- `smoothing::smooth` meets its contract. Assumes nothing.
-use borrow.Author.Rules.{rules}
 use mathlib.Core.Path.{sym, ◌∙◌, ap}
 use Rattle.picture.specs.Refusal.{Filling}
 use Rattle.smoothing.proofs.Taken.{smooth-refused, smooth-done, smooth-asked}

@@ -1,5 +1,4 @@
 -- `smoothing::steady` meets its contract. Assumes nothing.
-use borrow.Author.Rules.{rules}
 use mathlib.Core.Path.{sym, ◌∙◌}
 use Rattle.smoothing.proofs.Taken.{steady-refused, steady-answered, steady-checked}
 use Rattle.smoothing.proofs.steady.Goals as goal

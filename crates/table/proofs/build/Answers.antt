@@ -1,6 +1,5 @@
 -- `table::build` meets its contract. Assumes nothing.
 use mathlib.Core.Path.{sym, ◌∙◌, ap}
-use borrow.Author.Rules.{rules}
 use Rattle.picture.specs.Refusal.{Filling}
 use Rattle.picture.specs.Picture.{Source, source}
 use Rattle.table.proofs.Taken.{build-refused, build-done, buildable}

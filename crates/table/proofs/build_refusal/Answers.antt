@@ -1,5 +1,4 @@
 -- `table::build_refusal` meets its contract. Assumes nothing.
-use borrow.Author.Rules.{rules}
 use borrow.Author.Tests.{le-ltb}
 use mathlib.Core.Path.{sym, ◌∙◌}
 use lib.Dec.{lt→ltb}

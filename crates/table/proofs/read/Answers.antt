@@ -1,6 +1,5 @@
 -- `table::read` meets its contract. Assumes nothing.
 use mathlib.Core.Path.{sym, ◌∙◌}
-use borrow.Author.Rules.{rules}
 use mir.Facts.{to_z-of_z}
 use Rattle.table.proofs.Taken.{read-refused, read-answered, read-window, read-readable}
 use mir.Syntax.{w64}

@@ -1,6 +1,4 @@
 -- `table::read_refusal` meets its contract. Assumes nothing.
-use borrow.Author.Rules.{rules}
-use Rattle.numbers.proofs.Tests.{holds_of}
 use Rattle.picture.proofs.Refusals.{number-none, number-stop, number-pass}
 use Rattle.std.proofs.Common.{ap, not}
 use Rattle.table.proofs.read_refusal.Goals as goal

@@ -51,9 +51,9 @@ pub over_32768-level-requires : goal.over_32768-level-requires
 over_32768-level-requires c =
     let fits-s : SFits w64 c.args.z.s = search rules in
     let taken : Taken c.args.z c.in-Given.m = given-tells c.args.z _ _ c.central_moments.ensures c.in-Given.is in
-    let mean-is : c.nearest.result ≡ mean c.args.z = 
-        let t = taken in
-        mean-found c.args.z t.possible _ (count-is _ _ t) _ (simp (to_z-of_z, fits-s) at c.nearest.ensures) in
+    let mean-is : c.nearest.result ≡ mean c.args.z =
+    let t = taken in
+    mean-found c.args.z t.possible _ (count-is _ _ t) _ (simp (to_z-of_z, fits-s) at c.nearest.ensures) in
     let mean-fits : SFits w64 c.nearest.result = record { sfits = c.nearest.type_inv } in
     let t = taken in
     simp (to_z-of_z, mean-fits) (small-mean _ _ t.possible t.some_cell mean-is)
@@ -62,9 +62,9 @@ pub returns-then-m-eq0 : goal.returns-then-m-eq0
 returns-then-m-eq0 c =
     let fits-s : SFits w64 c.args.z.s = search rules in
     let taken : Taken c.args.z c.in-Given.m = given-tells c.args.z _ _ c.central_moments.ensures c.in-Given.is in
-    let mean-is : c.nearest.result ≡ mean c.args.z = 
-        let t = taken in
-        mean-found c.args.z t.possible _ (count-is _ _ t) _ (simp (to_z-of_z, fits-s) at c.nearest.ensures) in
+    let mean-is : c.nearest.result ≡ mean c.args.z =
+    let t = taken in
+    mean-found c.args.z t.possible _ (count-is _ _ t) _ (simp (to_z-of_z, fits-s) at c.nearest.ensures) in
     let mean-fits : SFits w64 c.nearest.result = record { sfits = c.nearest.type_inv } in
     let level-is : c.over_32768-level.result ≡ over32768 (mean c.args.z) = (simp (to_z-of_z, mean-fits) at c.over_32768-level.ensures) ∙ ap over32768 mean-is in
     let t = taken in
@@ -85,25 +85,25 @@ whole_root-requires c =
 pub overflow_cast-whole_root : goal.overflow_cast-whole_root
 overflow_cast-whole_root c =
     let taken : Taken c.args.z c.in-Given.m = given-tells c.args.z _ _ c.central_moments.ensures c.in-Given.is in
-    let root_is : c.whole_root.result ≡ deviation c.args.z = 
-        let t = taken in
-        deviation-found _ t.possible _ (count-is _ _ t) _ _ (vf-is _ _ t) c.whole_root.ensures in
-    let root-small : c.whole_root.result ≤ 32768 = 
-        let t = taken in
-        let h = t.some_cell in
-        omega (arith, root_is, deviation-bound _ t.possible (omega arith)) in
+    let root_is : c.whole_root.result ≡ deviation c.args.z =
+    let t = taken in
+    deviation-found _ t.possible _ (count-is _ _ t) _ _ (vf-is _ _ t) c.whole_root.ensures in
+    let root-small : c.whole_root.result ≤ 32768 =
+    let t = taken in
+    let h = t.some_cell in
+    omega (arith, root_is, deviation-bound _ t.possible (omega arith)) in
     record { sfits = omega (arith, root-small) }
 
 pub over_32768-spread-requires : goal.over_32768-spread-requires
 over_32768-spread-requires c =
     let taken : Taken c.args.z c.in-Given.m = given-tells c.args.z _ _ c.central_moments.ensures c.in-Given.is in
-    let root_is : c.whole_root.result ≡ deviation c.args.z = 
-        let t = taken in
-        deviation-found _ t.possible _ (count-is _ _ t) _ _ (vf-is _ _ t) c.whole_root.ensures in
-    let root-small : c.whole_root.result ≤ 32768 = 
-        let t = taken in
-        let h = t.some_cell in
-        omega (arith, root_is, deviation-bound _ t.possible (omega arith)) in
+    let root_is : c.whole_root.result ≡ deviation c.args.z =
+    let t = taken in
+    deviation-found _ t.possible _ (count-is _ _ t) _ _ (vf-is _ _ t) c.whole_root.ensures in
+    let root-small : c.whole_root.result ≤ 32768 =
+    let t = taken in
+    let h = t.some_cell in
+    omega (arith, root_is, deviation-bound _ t.possible (omega arith)) in
     let root-signed : to_z w64 c.whole_root.result ≡ pos c.whole_root.result = to_z_pos w64 (omega (arith, root-small)) in
     simp root-signed root-small
 
@@ -122,18 +122,18 @@ pub returns-else-m-eq0 : goal.returns-else-m-eq0
 returns-else-m-eq0 c =
     let fits-s : SFits w64 c.args.z.s = search rules in
     let taken : Taken c.args.z c.in-Given.m = given-tells c.args.z _ _ c.central_moments.ensures c.in-Given.is in
-    let mean-is : c.nearest.result ≡ mean c.args.z = 
-        let t = taken in
-        mean-found c.args.z t.possible _ (count-is _ _ t) _ (simp (to_z-of_z, fits-s) at c.nearest.ensures) in
+    let mean-is : c.nearest.result ≡ mean c.args.z =
+    let t = taken in
+    mean-found c.args.z t.possible _ (count-is _ _ t) _ (simp (to_z-of_z, fits-s) at c.nearest.ensures) in
     let mean-fits : SFits w64 c.nearest.result = record { sfits = c.nearest.type_inv } in
     let level-is : c.over_32768-level.result ≡ over32768 (mean c.args.z) = (simp (to_z-of_z, mean-fits) at c.over_32768-level.ensures) ∙ ap over32768 mean-is in
-    let root_is : c.whole_root.result ≡ deviation c.args.z = 
-        let t = taken in
-        deviation-found _ t.possible _ (count-is _ _ t) _ _ (vf-is _ _ t) c.whole_root.ensures in
-    let root-small : c.whole_root.result ≤ 32768 = 
-        let t = taken in
-        let h = t.some_cell in
-        omega (arith, root_is, deviation-bound _ t.possible (omega arith)) in
+    let root_is : c.whole_root.result ≡ deviation c.args.z =
+    let t = taken in
+    deviation-found _ t.possible _ (count-is _ _ t) _ _ (vf-is _ _ t) c.whole_root.ensures in
+    let root-small : c.whole_root.result ≤ 32768 =
+    let t = taken in
+    let h = t.some_cell in
+    omega (arith, root_is, deviation-bound _ t.possible (omega arith)) in
     let root-signed : to_z w64 c.whole_root.result ≡ pos c.whole_root.result = to_z_pos w64 (omega (arith, root-small)) in
     let t = taken in
     answers-grainy _ t.possible _ _ t.some_cell (λ e. c.if-m-eq0.false (vf-is _ _ t ∙ e))

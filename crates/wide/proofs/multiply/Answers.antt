@@ -1,8 +1,7 @@
 -- `wide::multiply` meets its contract. Assumes nothing.
-use borrow.Author.Rules.{rules}
 use Prim.Native.Nat.{◌/◌, ◌%◌, ◌<◌}
 use native.Mathlib.Omega.{arith}
-use Rattle.wide.proofs.Digits.{base, digits, digits-fit, carry, product}
+use Rattle.wide.proofs.Digits.{base, product}
 use Rattle.wide.proofs.multiply.Goals as goal
 
 module _ (c : goal.Start) where

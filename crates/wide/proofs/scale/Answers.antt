@@ -1,8 +1,7 @@
 -- `wide::scale` meets its contract. Assumes nothing.
 use borrow.Author.Rules.{rules}
 use Prim.Native.Nat.{◌<◌, ◌^◌}
-use native.Mathlib.Omega.{arith}
-use Rattle.wide.proofs.Digits.{base, digits-fit, first_fits, second_fits, third-fits, fourth-fits, scaled}
+use Rattle.wide.proofs.Digits.{base, scaled}
 use Rattle.wide.proofs.scale.Goals as goal
 
 high : (c : goal.Start) → c.args.x.high < 2 ^ 64

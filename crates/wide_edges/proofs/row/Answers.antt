@@ -1,5 +1,4 @@
 -- `wide_edges::row` meets its contract. Assumes nothing.
-use borrow.Author.Rules.{rules}
 use mathlib.Core.Path.{◌∙◌}
 use Prim.Native.Nat.{ℕ, ◌+◌, ◌-◌, ◌^◌, ◌≤◌}
 use native.Mathlib.Omega.{arith}
@@ -9,7 +8,7 @@ use Rattle.picture.proofs.Planes.{plane-bound, plane-beside}
 use Rattle.slopes.specs.Slopes.{padded}
 use Rattle.slopes.proofs.Moves.{padded-bound}
 use Rattle.kept_slopes.proofs.Kept.{blank_of, within-row, slopes-next, work-edged}
-use Rattle.kept_slopes.proofs.Asks.{limits, load-asked, flat-asked, rises-asked, falls-asked, finish-asked}
+use Rattle.kept_slopes.proofs.Asks.{limits, flat-asked, rises-asked, falls-asked, finish-asked}
 use Rattle.wide_edges.proofs.row.Goals as goal
 
 pub flat-requires : goal.flat-requires

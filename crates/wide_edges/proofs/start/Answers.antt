@@ -1,6 +1,4 @@
 -- `wide_edges::start` meets its contract. Assumes nothing.
-use borrow.Author.Rules.{rules}
-use mathlib.Core.Path.{◌≡◌}
 use Prim.Native.Nat.{ℕ, ◌+◌, ◌-◌, ◌^◌, ◌≤◌}
 use native.Mathlib.Omega.{arith}
 use lib.IntN.{nat_abs}
@@ -8,10 +6,8 @@ use Rattle.picture.specs.Picture.{Source, source, plane_at}
 use Rattle.picture.proofs.Planes.{plane-bound, plane-beside}
 use Rattle.slopes.specs.Slopes.{padded}
 use Rattle.slopes.proofs.Moves.{padded-bound}
-use Rattle.slopes.specs.Leans.{Blank}
-use Rattle.kept_slopes.specs.Edges.{Slopes}
 use Rattle.kept_slopes.proofs.Kept.{blank_of, within-row, slopes-cell}
-use Rattle.kept_slopes.proofs.Asks.{limits, load-asked, rises-asked, falls-asked}
+use Rattle.kept_slopes.proofs.Asks.{limits, rises-asked, falls-asked}
 use Rattle.wide_edges.proofs.start.Goals as goal
 
 pub overflow_add-i : goal.overflow_add-i

@@ -1,17 +1,9 @@
 -- What the loops of `wide_edges::start` keep. Assumes nothing.
-use borrow.Author.Rules.{rules}
-use mathlib.Core.Path.{◌≡◌}
-use Prim.Native.Nat.{ℕ, ◌+◌, ◌-◌, ◌^◌, ◌≤◌}
-use native.Mathlib.Omega.{arith}
-use lib.IntN.{nat_abs}
-use Rattle.picture.specs.Picture.{Source, source, plane_at}
-use Rattle.picture.proofs.Planes.{plane-bound, plane-beside}
+use Prim.Native.Nat.{◌+◌, ◌-◌, ◌≤◌}
+use Rattle.picture.specs.Picture.{source, plane_at}
 use Rattle.slopes.specs.Slopes.{padded}
-use Rattle.slopes.proofs.Moves.{padded-bound}
 use Rattle.slopes.specs.Leans.{Blank}
 use Rattle.kept_slopes.specs.Edges.{Slopes}
-use Rattle.kept_slopes.proofs.Kept.{blank_of, within-row, slopes-cell}
-use Rattle.kept_slopes.proofs.Asks.{limits, load-asked, rises-asked, falls-asked}
 use Rattle.wide_edges.proofs.start.Given as goal
 
 abbrev pub invariant-loop-t : goal.invariant-loop-t

@@ -1,7 +1,6 @@
 -- `wide_leans::finish` meets its contract. Assumes nothing.
-use borrow.Author.Rules.{rules}
 use mathlib.Core.Path.{◌∙◌, ap}
-use Prim.Native.Nat.{ℕ, ◌+◌, ◌-◌, ◌<◌}
+use Prim.Native.Nat.{ℕ, ◌+◌, ◌<◌}
 use native.Mathlib.Omega.{arith}
 use lib.IntN.{ℤ, ◌+ℤ◌}
 use lib.ListN.{length}
@@ -9,8 +8,7 @@ use mir.Facts.{to_z-of_z}
 use mir.Syntax.{w64}
 use mir.Val.{SFits}
 use Rattle.numbers.specs.Wrap.{wrap}
-use Rattle.numbers.proofs.Writes.{at, Upto, upto-none, upto-more, upto_all}
-use Rattle.slopes.specs.Leans.{taken}
+use Rattle.numbers.proofs.Writes.{at, upto-more, upto_all}
 use Rattle.slopes.proofs.Loops.{mag-add}
 use Rattle.wide_leans.proofs.finish.Goals as goal
 
@@ -21,9 +19,9 @@ loop-j-preserved c =
     let falling : ℤ = at c.args.falling.now (j + c.args.q) in
     let rising-fits : SFits w64 rising = record { sfits = c.wrapping_add-arg-in-loop-j-1.given } in
     let falling-fits : SFits w64 falling = record { sfits = c.wrapping_add-arg-in-loop-j-2-1.given } in
-    let slopes : SFits w64 (rising +ℤ falling) = 
-        let j< : j < length c.args.work.now = omega (arith, c.loop-j.invariant.0.size) in
-        record { sfits = omega (arith, mag-add rising falling, c.requires.within_rising.each j j<, c.requires.within_falling.each j j<) } in
+    let slopes : SFits w64 (rising +ℤ falling) =
+    let j< : j < length c.args.work.now = omega (arith, c.loop-j.invariant.0.size) in
+    record { sfits = omega (arith, mag-add rising falling, c.requires.within_rising.each j j<, c.requires.within_falling.each j j<) } in
     let two = c in
     let l = two.loop-j in
     let w : SFits w64 (at l.work l.j) = record { sfits = two.wrapping_add-arg-1.given } in

@@ -1,17 +1,8 @@
 -- What the loops of `wide_leans::finish` keep. Assumes nothing.
-use borrow.Author.Rules.{rules}
-use mathlib.Core.Path.{◌∙◌, ap}
-use Prim.Native.Nat.{ℕ, ◌+◌, ◌-◌, ◌<◌}
-use native.Mathlib.Omega.{arith}
-use lib.IntN.{ℤ, ◌+ℤ◌}
+use Prim.Native.Nat.{◌-◌}
 use lib.ListN.{length}
-use mir.Facts.{to_z-of_z}
-use mir.Syntax.{w64}
-use mir.Val.{SFits}
-use Rattle.numbers.specs.Wrap.{wrap}
-use Rattle.numbers.proofs.Writes.{at, Upto, upto-none, upto-more, upto_all}
+use Rattle.numbers.proofs.Writes.{Upto}
 use Rattle.slopes.specs.Leans.{taken}
-use Rattle.slopes.proofs.Loops.{mag-add}
 use Rattle.wide_leans.proofs.finish.Given as goal
 
 abbrev pub invariant-loop-j : goal.invariant-loop-j

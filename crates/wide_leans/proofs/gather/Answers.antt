@@ -1,16 +1,13 @@
 -- `wide_leans::gather` meets its contract. Assumes nothing.
-use borrow.Author.Rules.{rules}
-use mathlib.Core.Path.{◌≡◌, ◌∙◌, ap}
-use Prim.Native.Nat.{◌+◌, ◌-◌, ◌^◌, ◌≤◌}
+use mathlib.Core.Path.{◌∙◌, ap}
+use Prim.Native.Nat.{◌+◌}
 use native.Mathlib.Omega.{arith}
 use lib.IntN.{ℤ, ◌+ℤ◌, ◌-ℤ◌}
-use lib.Signed.{mag}
 use mir.Facts.{to_z-of_z}
 use mir.Syntax.{w64}
 use mir.Val.{SFits}
 use Rattle.numbers.proofs.Writes.{at}
-use Rattle.slopes.specs.Leans.{Moved, gathered}
-use Rattle.slopes.proofs.Loops.{moved_none, moved-next, moved_more}
+use Rattle.slopes.proofs.Loops.{moved-next, moved_more}
 use Rattle.wide_leans.proofs.gather.Goals as goal
 
 pub loop-x-preserved : goal.loop-x-preserved

@@ -1,7 +1,6 @@
 -- `wide_leans::slide` meets its contract. Assumes nothing.
-use borrow.Author.Rules.{rules}
 use mathlib.Core.Path.{◌≡◌, ◌∙◌, ap}
-use Prim.Native.Nat.{ℕ, ◌+◌, ◌-◌, ◌^◌, ◌≤◌}
+use Prim.Native.Nat.{ℕ, ◌+◌, ◌^◌, ◌≤◌}
 use native.Mathlib.Omega.{arith}
 use lib.IntN.{ℤ, ◌+ℤ◌, ◌-ℤ◌}
 use lib.Signed.{mag}
@@ -9,8 +8,7 @@ use mir.Facts.{to_z-of_z}
 use mir.Syntax.{w64}
 use mir.Val.{SFits}
 use Rattle.numbers.proofs.Writes.{at}
-use Rattle.slopes.specs.Leans.{Moved, slid}
-use Rattle.slopes.proofs.Loops.{moved_none, moved-next, moved_more, mag-add, mag-sub, add_turned}
+use Rattle.slopes.proofs.Loops.{moved-next, moved_more, mag-add, mag-sub, add_turned}
 use Rattle.wide_leans.proofs.slide.Goals as goal
 
 pub gain-requires-in-loop-x : goal.gain-requires-in-loop-x
@@ -19,15 +17,15 @@ gain-requires-in-loop-x c =
     let sum : ℤ = at c.args.sums.now (x + c.args.s) in
     let enter : ℤ = at c.args.a.now (x + c.args.pa) in
     let leave : ℤ = at c.args.b.now (x + c.args.pb) in
-    let half : c.gain.result ≡ sum +ℤ (enter -ℤ leave) = 
-        let l = c.loop-x in
-        let f : SFits w64 (at l.sums (x + c.args.s)) = record { sfits = c.gain-arg-1.given } in
-        let a : SFits w64 enter = record { sfits = c.gain-arg-in-loop-x-1.given } in
-        let b : SFits w64 leave = record { sfits = c.gain-arg-in-loop-x-2-1.given } in
-        simp (to_z-of_z, f, a, b) at c.gain.ensures ∙ ap (λ (z : ℤ). z +ℤ (enter -ℤ leave)) (moved-next l.invariant.1) in
-    let half-mag : mag c.gain.result ≤ 2 ^ 61 = 
-        let h : mag sum ≤ 2 ^ 60 = c.requires.0.gather.within.each x (omega arith) in
-        rw half (omega (arith, h, mag-add sum (enter -ℤ leave), mag-sub enter leave, c.requires.1.each x (omega arith), c.requires.2.each x (omega arith))) in
+    let half : c.gain.result ≡ sum +ℤ (enter -ℤ leave) =
+    let l = c.loop-x in
+    let f : SFits w64 (at l.sums (x + c.args.s)) = record { sfits = c.gain-arg-1.given } in
+    let a : SFits w64 enter = record { sfits = c.gain-arg-in-loop-x-1.given } in
+    let b : SFits w64 leave = record { sfits = c.gain-arg-in-loop-x-2-1.given } in
+    simp (to_z-of_z, f, a, b) at c.gain.ensures ∙ ap (λ (z : ℤ). z +ℤ (enter -ℤ leave)) (moved-next l.invariant.1) in
+    let half-mag : mag c.gain.result ≤ 2 ^ 61 =
+    let h : mag sum ≤ 2 ^ 60 = c.requires.0.gather.within.each x (omega arith) in
+    rw half (omega (arith, h, mag-add sum (enter -ℤ leave), mag-sub enter leave, c.requires.1.each x (omega arith), c.requires.2.each x (omega arith))) in
     let s = c in
     let l = c.loop-x in
     let r : SFits w64 c.gain.result = record { sfits = c.gain.type_inv } in
@@ -41,12 +39,12 @@ loop-x-preserved c =
     let sum : ℤ = at c.args.sums.now (x + c.args.s) in
     let enter : ℤ = at c.args.a.now (x + c.args.pa) in
     let leave : ℤ = at c.args.b.now (x + c.args.pb) in
-    let half : c.gain.result ≡ sum +ℤ (enter -ℤ leave) = 
-        let l = c.loop-x in
-        let f : SFits w64 (at l.sums (x + c.args.s)) = record { sfits = c.gain-arg-1.given } in
-        let a : SFits w64 enter = record { sfits = c.gain-arg-in-loop-x-1.given } in
-        let b : SFits w64 leave = record { sfits = c.gain-arg-in-loop-x-2-1.given } in
-        simp (to_z-of_z, f, a, b) at c.gain.ensures ∙ ap (λ (z : ℤ). z +ℤ (enter -ℤ leave)) (moved-next l.invariant.1) in
+    let half : c.gain.result ≡ sum +ℤ (enter -ℤ leave) =
+    let l = c.loop-x in
+    let f : SFits w64 (at l.sums (x + c.args.s)) = record { sfits = c.gain-arg-1.given } in
+    let a : SFits w64 enter = record { sfits = c.gain-arg-in-loop-x-1.given } in
+    let b : SFits w64 leave = record { sfits = c.gain-arg-in-loop-x-2-1.given } in
+    simp (to_z-of_z, f, a, b) at c.gain.ensures ∙ ap (λ (z : ℤ). z +ℤ (enter -ℤ leave)) (moved-next l.invariant.1) in
     let one = c in
     let s = c in
     let l = one.loop-x in

@@ -1,5 +1,4 @@
 -- `window_sums::add_line` meets its contract. Assumes nothing.
-use borrow.Author.Rules.{rules}
 use borrow.Author.Tests.{not-true, not-false}
 use mathlib.Core.Path.{◌∙◌}
 use mir.Syntax.{w64}

@@ -1,7 +1,7 @@
 -- `window_sums::sum` meets its contract. Assumes nothing.
 use borrow.Author.Rules.{rules}
 use mathlib.Core.Path.{◌≡◌, sym, ap, subst, ◌∙◌}
-use Prim.Native.Nat.{ℕ, suc, ◌+◌, ◌-◌, ◌≤◌, min}
+use Prim.Native.Nat.{ℕ, suc, ◌+◌, ◌-◌, min}
 use native.Mathlib.Omega.{arith}
 use mir.Syntax.{w32, w64}
 use mir.Val.{SFits, to_z}
@@ -9,7 +9,6 @@ use mir.Facts.{to_z-of_z}
 use Rattle.numbers.specs.Sum.{sum_to}
 use Rattle.numbers.specs.Wrap.{wrap}
 use Rattle.numbers.proofs.Running.{range_none, range-more}
-use Rattle.picture.specs.declared.Shift.{Shift}
 use Rattle.picture.specs.Picture.{inputs}
 use Rattle.picture.proofs.Refusals.{in-limits}
 use Rattle.overlaps.specs.Overlaps.{Overlapping}
@@ -59,12 +58,12 @@ loop-m-preserved c =
 
 pub returns : goal.returns
 returns c =
-    let down-overlaps : Overlapping c.args.size.rows c.args.shift.down c.overlap_of-counting.result = 
-        let f : SFits w32 c.args.shift.down = record { sfits = c.struct_told-1.given.0.1 } in
-        simp (to_z-of_z, f) at c.overlap_of-counting.ensures in
-    let right-overlaps : Overlapping c.args.size.columns c.args.shift.right c.overlap_of-along.result = 
-        let f : SFits w32 c.args.shift.right = record { sfits = c.struct_told-1.given.1.0.1 } in
-        simp (to_z-of_z, f) at c.overlap_of-along.ensures in
+    let down-overlaps : Overlapping c.args.size.rows c.args.shift.down c.overlap_of-counting.result =
+    let f : SFits w32 c.args.shift.down = record { sfits = c.struct_told-1.given.0.1 } in
+    simp (to_z-of_z, f) at c.overlap_of-counting.ensures in
+    let right-overlaps : Overlapping c.args.size.columns c.args.shift.right c.overlap_of-along.result =
+    let f : SFits w32 c.args.shift.right = record { sfits = c.struct_told-1.given.1.0.1 } in
+    simp (to_z-of_z, f) at c.overlap_of-along.ensures in
     let a = c.args in
     let l = c.loop-m in
     let x = inputs a.size a.f.now a.g.now a.window a.shift a.plane in

@@ -1,22 +1,12 @@
 -- What the loops of `window_sums::sum` keep. Assumes nothing.
-use borrow.Author.Rules.{rules}
-use mathlib.Core.Path.{◌≡◌, sym, ap, subst, ◌∙◌}
-use Prim.Native.Nat.{ℕ, suc, ◌+◌, ◌-◌, ◌≤◌, min}
-use native.Mathlib.Omega.{arith}
-use mir.Syntax.{w32, w64}
-use mir.Val.{SFits, to_z}
-use mir.Facts.{to_z-of_z}
+use mathlib.Core.Path.{◌≡◌}
+use Prim.Native.Nat.{◌+◌, ◌-◌, ◌≤◌}
 use Rattle.numbers.specs.Sum.{sum_to}
 use Rattle.numbers.specs.Wrap.{wrap}
-use Rattle.numbers.proofs.Running.{range_none, range-more}
 use Rattle.picture.specs.declared.Shift.{Shift}
 use Rattle.picture.specs.Picture.{inputs}
-use Rattle.picture.proofs.Refusals.{in-limits}
 use Rattle.overlaps.specs.Overlaps.{Overlapping}
-use Rattle.lines.specs.Lines.{line_value, Lies}
-use Rattle.lines.specs.declared.Line.{Line}
-use Rattle.lines.proofs.LineValues.{line-lies}
-use Rattle.window_sums.proofs.Totals.{window_row, row-total, rows-done}
+use Rattle.window_sums.proofs.Totals.{window_row}
 use Rattle.window_sums.proofs.sum.Given as goal
 
 abbrev pub invariant-loop-m : goal.invariant-loop-m

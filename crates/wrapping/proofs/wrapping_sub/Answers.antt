@@ -1,5 +1,5 @@
 -- `wrapping::wrapping_sub` meets its contract. Assumes nothing.
-use Rattle.std.proofs.Common.{◌≡◌, ◌+◌, ◌%◌, ◌^◌, ◌-ℤ◌, ap, ◌∙◌, arith, w64, rules}
+use Rattle.std.proofs.Common.{◌≡◌, ◌+◌, ◌%◌, ◌^◌, ◌-ℤ◌, ap, ◌∙◌, arith, w64}
 use mir.ValLaws.{to_z-of_z}
 use Rattle.numbers.specs.Wrap.{residue, spelled, wrap}
 use Rattle.numbers.proofs.Wraps.{residue-lt, residue-sub}

@@ -1,21 +1,18 @@
 -- `edges::narrow::after` meets its contract. Assumes nothing.
-use borrow.Author.Rules.{rules}
-use mathlib.Core.Path.{◌≡◌, refl, sym, ◌∙◌}
-use Prim.Native.Nat.{ℕ, ◌+◌, ◌-◌, ◌*◌, ◌≤◌, ◌<◌}
+use mathlib.Core.Path.{◌≡◌, refl, ◌∙◌}
+use Prim.Native.Nat.{ℕ, ◌+◌, ◌-◌, ◌≤◌, ◌<◌}
 use native.Mathlib.Omega.{arith}
-use native.Mathlib.Nat.{mul-le-mul}
 use lib.ListN.{length}
 use Rattle.numbers.proofs.Writes.{slice-length}
-use Rattle.picture.specs.Window.{shape_of, height, width}
+use Rattle.picture.specs.Window.{shape_of}
 use Rattle.picture.specs.Picture.{Source, source, plane_at}
 use Rattle.picture.proofs.Refusals.{in-limits}
 use Rattle.picture.proofs.Windows.{height-width, height-small, width_small}
 use Rattle.numbers.proofs.Lines.{line-end}
 use Rattle.slopes.specs.Slopes.{padded}
-use Rattle.kept_slopes.specs.Edges.{Slopes, Rows, EdgesAsked}
-use Rattle.slopes.specs.Leans.{Holds}
+use Rattle.kept_slopes.specs.Edges.{EdgesAsked}
 use Rattle.kept_slopes.proofs.Kept.{slopes-begin, holds-begin}
-use Rattle.kept_slopes.proofs.Advances.{Fits, Passed, passed_none, passed-more, passed-all}
+use Rattle.kept_slopes.proofs.Advances.{Fits, passed_none, passed-more, passed-all}
 use Rattle.edges.proofs.narrow.after.Goals as goal
 
 pub loop-m-init : goal.loop-m-init
@@ -39,30 +36,30 @@ row-requires c =
     let pictures : Source = source c.args.size c.args.f.now c.args.g.now c.args.shift c.args.plane in
     let h : ℕ = c.height-h.result in
     let w : ℕ = c.width-w.result in
-    let fits : Fits pictures h w (shape_of c.args.window) = 
-        let x = c.requires.many in
-        record {
-          slanted = x.slanted;
-          high = c.height-h.ensures;
-          wide = c.width-w.ensures;
-          low = omega (arith, c.height-h.ensures, height-small c.args.window x.inputs.window);
-          narrow = omega (arith, c.width-w.ensures, width_small c.args.window x.inputs.window);
-        } in
-    let edges : (i : ℕ) → i < c.args.size.rows → EdgesAsked pictures i h w = 
-        λ i inside. let x = c.requires.many.inputs in
-        record {
-          size = x.size;
-          length_f = x.length_f;
-          length_g = x.length_g;
-          levels_f = x.levels_f;
-          levels_g = x.levels_g;
-          row = inside;
-          low = omega (arith, c.height-h.ensures, c.width-w.ensures, height-width (shape_of c.args.window) c.requires.many.slanted);
-          narrow = fits.narrow;
-        } in
-    let ends : c.loop-m.begin + c.args.size.columns ≤ length c.loop-m.out = 
-        let l = c.loop-m in
-        omega (arith, l.invariant.1, l.invariant.2, c.requires.many.room, line-end l.m c.args.n c.args.size.columns c.loop-m-test.true) in
+    let fits : Fits pictures h w (shape_of c.args.window) =
+    let x = c.requires.many in
+    record {
+      slanted = x.slanted;
+      high = c.height-h.ensures;
+      wide = c.width-w.ensures;
+      low = omega (arith, c.height-h.ensures, height-small c.args.window x.inputs.window);
+      narrow = omega (arith, c.width-w.ensures, width_small c.args.window x.inputs.window);
+    } in
+    let edges : (i : ℕ) → i < c.args.size.rows → EdgesAsked pictures i h w =
+    λ i inside. let x = c.requires.many.inputs in
+    record {
+      size = x.size;
+      length_f = x.length_f;
+      length_g = x.length_g;
+      levels_f = x.levels_f;
+      levels_g = x.levels_g;
+      row = inside;
+      low = omega (arith, c.height-h.ensures, c.width-w.ensures, height-width (shape_of c.args.window) c.requires.many.slanted);
+      narrow = fits.narrow;
+    } in
+    let ends : c.loop-m.begin + c.args.size.columns ≤ length c.loop-m.out =
+    let l = c.loop-m in
+    omega (arith, l.invariant.1, l.invariant.2, c.requires.many.room, line-end l.m c.args.n c.args.size.columns c.loop-m-test.true) in
     let l = c.loop-m in
     let z = c.args.size in
     let inside = c.loop-m-test.true in
@@ -85,9 +82,9 @@ loop-m-preserved c =
     let pictures : Source = source c.args.size c.args.f.now c.args.g.now c.args.shift c.args.plane in
     let h : ℕ = c.height-h.result in
     let w : ℕ = c.width-w.result in
-    let ends : c.loop-m.begin + c.args.size.columns ≤ length c.loop-m.out = 
-        let l = c.loop-m in
-        omega (arith, l.invariant.1, l.invariant.2, c.requires.many.room, line-end l.m c.args.n c.args.size.columns c.loop-m-test.true) in
+    let ends : c.loop-m.begin + c.args.size.columns ≤ length c.loop-m.out =
+    let l = c.loop-m in
+    omega (arith, l.invariant.1, l.invariant.2, c.requires.many.room, line-end l.m c.args.n c.args.size.columns c.loop-m-test.true) in
     let l = c.loop-m in
     let z = c.args.size in
     let r = c.row.ensures.row in
@@ -109,14 +106,14 @@ returns c =
     let pictures : Source = source c.args.size c.args.f.now c.args.g.now c.args.shift c.args.plane in
     let h : ℕ = c.height-h.result in
     let w : ℕ = c.width-w.result in
-    let fits : Fits pictures h w (shape_of c.args.window) = 
-        let x = c.requires.many in
-        record {
-          slanted = x.slanted;
-          high = c.height-h.ensures;
-          wide = c.width-w.ensures;
-          low = omega (arith, c.height-h.ensures, height-small c.args.window x.inputs.window);
-          narrow = omega (arith, c.width-w.ensures, width_small c.args.window x.inputs.window);
-        } in
+    let fits : Fits pictures h w (shape_of c.args.window) =
+    let x = c.requires.many in
+    record {
+      slanted = x.slanted;
+      high = c.height-h.ensures;
+      wide = c.width-w.ensures;
+      low = omega (arith, c.height-h.ensures, height-small c.args.window x.inputs.window);
+      narrow = omega (arith, c.width-w.ensures, width_small c.args.window x.inputs.window);
+    } in
     let l = c.loop-m in
     passed-all pictures h w c.args.i c.args.n l.m c.args.work.now l.work l.out (shape_of c.args.window) fits l.invariant.4 (omega (arith, l.invariant.0, c.loop-m-test.false)) (l.invariant.2 ∙ c.requires.many.room)

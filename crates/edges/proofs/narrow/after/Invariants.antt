@@ -1,21 +1,12 @@
 -- What the loops of `edges::narrow::after` keep. Assumes nothing.
-use borrow.Author.Rules.{rules}
-use mathlib.Core.Path.{◌≡◌, refl, sym, ◌∙◌}
-use Prim.Native.Nat.{ℕ, ◌+◌, ◌-◌, ◌*◌, ◌≤◌, ◌<◌}
-use native.Mathlib.Omega.{arith}
-use native.Mathlib.Nat.{mul-le-mul}
+use mathlib.Core.Path.{◌≡◌}
+use Prim.Native.Nat.{◌+◌, ◌-◌, ◌*◌, ◌≤◌}
 use lib.ListN.{length}
-use Rattle.numbers.proofs.Writes.{slice-length}
-use Rattle.picture.specs.Window.{shape_of, height, width}
-use Rattle.picture.specs.Picture.{Source, source, plane_at}
-use Rattle.picture.proofs.Refusals.{in-limits}
-use Rattle.picture.proofs.Windows.{height-width, height-small, width_small}
-use Rattle.numbers.proofs.Lines.{line-end}
+use Rattle.picture.specs.Picture.{source, plane_at}
 use Rattle.slopes.specs.Slopes.{padded}
-use Rattle.kept_slopes.specs.Edges.{Slopes, Rows, EdgesAsked}
+use Rattle.kept_slopes.specs.Edges.{Slopes, Rows}
 use Rattle.slopes.specs.Leans.{Holds}
-use Rattle.kept_slopes.proofs.Kept.{slopes-begin, holds-begin}
-use Rattle.kept_slopes.proofs.Advances.{Fits, Passed, passed_none, passed-more, passed-all}
+use Rattle.kept_slopes.proofs.Advances.{Passed}
 use Rattle.edges.proofs.narrow.after.Given as goal
 
 abbrev pub invariant-loop-m : goal.invariant-loop-m

@@ -1,12 +1,10 @@
 -- `edges::narrow::rows_from` meets its contract. Assumes nothing.
-use borrow.Author.Rules.{rules}
-use mathlib.Core.Path.{◌≡◌, refl, sym, ◌∙◌}
-use Prim.Native.Nat.{ℕ, suc, ◌+◌, ◌-◌, ◌*◌, ◌≤◌, ◌<◌}
+use mathlib.Core.Path.{◌≡◌, refl, ◌∙◌}
+use Prim.Native.Nat.{ℕ, ◌+◌, ◌-◌, ◌*◌, ◌≤◌, ◌<◌}
 use native.Mathlib.Omega.{arith}
 use lib.ListN.{length}
-use Rattle.numbers.proofs.Lines.{line-end}
 use Rattle.numbers.proofs.Writes.{slice-length}
-use Rattle.picture.specs.Window.{shape_of, height, width}
+use Rattle.picture.specs.Window.{shape_of}
 use Rattle.picture.specs.Picture.{Source, Inputs, source, inputs, plane_at}
 use Rattle.picture.proofs.Planes.{plane-beside}
 use Rattle.picture.proofs.Refusals.{in-limits}
@@ -15,7 +13,7 @@ use Rattle.slopes.specs.Slopes.{padded}
 use Rattle.kept_slopes.specs.Edges.{EdgesAsked}
 use Rattle.kept_slopes.proofs.Kept.{zeros-blank, zeros-slopes, blank_of}
 use Rattle.kept_slopes.proofs.Asks.{load-asked}
-use Rattle.kept_slopes.proofs.Across.{behind-fits, output-few, slopes-top, rows-done}
+use Rattle.kept_slopes.proofs.Across.{behind-fits, rows-done}
 use Rattle.edges.proofs.narrow.rows_from.Goals as goal
 
 pub start-requires : goal.start-requires
@@ -24,19 +22,18 @@ start-requires c =
     let h : ℕ = c.height-h.result in
     let w : ℕ = c.width-w.result in
     let low : h ≤ 127 = omega (arith, c.height-h.ensures, height-small c.args.window c.requires.inputs.window) in
-    let edges : (i : ℕ) → i < c.args.size.rows → EdgesAsked pictures i h w = 
-        λ i inside. let x = c.requires.inputs in
-        record {
-          size = x.size;
-          length_f = x.length_f;
-          length_g = x.length_g;
-          levels_f = x.levels_f;
-          levels_g = x.levels_g;
-          row = inside;
-          low = omega (arith, c.height-h.ensures, c.width-w.ensures, height-width (shape_of c.args.window) c.requires.slanted);
-          narrow = omega (arith, c.width-w.ensures, width_small c.args.window x.window);
-        } in
-    (
+    let edges : (i : ℕ) → i < c.args.size.rows → EdgesAsked pictures i h w =
+    λ i inside. let x = c.requires.inputs in
+    record {
+      size = x.size;
+      length_f = x.length_f;
+      length_g = x.length_g;
+      levels_f = x.levels_f;
+      levels_g = x.levels_g;
+      row = inside;
+      low = omega (arith, c.height-h.ensures, c.width-w.ensures, height-width (shape_of c.args.window) c.requires.slanted);
+      narrow = omega (arith, c.width-w.ensures, width_small c.args.window x.window);
+    } in (
       c.requires.plane,
       record {
         edges = edges c.args.i (omega (arith, c.requires.rows));
@@ -61,27 +58,27 @@ load-requires c =
     let h : ℕ = c.height-h.result in
     let w : ℕ = c.width-w.result in
     let low : h ≤ 127 = omega (arith, c.height-h.ensures, height-small c.args.window c.requires.inputs.window) in
-    let edges : (i : ℕ) → i < c.args.size.rows → EdgesAsked pictures i h w = 
-        λ i inside. let x = c.requires.inputs in
-        record {
-          size = x.size;
-          length_f = x.length_f;
-          length_g = x.length_g;
-          levels_f = x.levels_f;
-          levels_g = x.levels_g;
-          row = inside;
-          low = omega (arith, c.height-h.ensures, c.width-w.ensures, height-width (shape_of c.args.window) c.requires.slanted);
-          narrow = omega (arith, c.width-w.ensures, width_small c.args.window x.window);
-        } in
+    let edges : (i : ℕ) → i < c.args.size.rows → EdgesAsked pictures i h w =
+    λ i inside. let x = c.requires.inputs in
+    record {
+      size = x.size;
+      length_f = x.length_f;
+      length_g = x.length_g;
+      levels_f = x.levels_f;
+      levels_g = x.levels_g;
+      row = inside;
+      low = omega (arith, c.height-h.ensures, c.width-w.ensures, height-width (shape_of c.args.window) c.requires.slanted);
+      narrow = omega (arith, c.width-w.ensures, width_small c.args.window x.window);
+    } in
     (c.requires.plane, load-asked pictures c.args.i h w (edges c.args.i (omega (arith, c.requires.rows))) (zeros-blank 1536 c.args.size.columns refl))
 
 pub after-requires : goal.after-requires
 after-requires c =
     let pictures : Source = source c.args.size c.args.f.now c.args.g.now c.args.shift c.args.plane in
     let h : ℕ = c.height-h.result in
-    let fits : (c.top_row-begin.result ≤ length c.args.out.now) × (length c.args.out.now - c.top_row-begin.result ≡ c.args.n * c.args.size.columns) = 
-        let top = c.top_row-begin.ensures in
-        behind-fits c.args.fresh c.top_row-begin.result c.args.size.columns c.args.n (length c.args.out.now) top.begins top.none c.requires.room_fresh c.requires.room_behind in
+    let fits : (c.top_row-begin.result ≤ length c.args.out.now) × (length c.args.out.now - c.top_row-begin.result ≡ c.args.n * c.args.size.columns) =
+    let top = c.top_row-begin.ensures in
+    behind-fits c.args.fresh c.top_row-begin.result c.args.size.columns c.args.n (length c.args.out.now) top.begins top.none c.requires.room_fresh c.requires.room_behind in
     let r = c.start.ensures in
     let leaves = c.load.ensures in
     let top = c.top_row-begin in
@@ -106,9 +103,9 @@ after-requires c =
 
 pub returns : goal.returns
 returns c =
-    let fits : (c.top_row-begin.result ≤ length c.args.out.now) × (length c.args.out.now - c.top_row-begin.result ≡ c.args.n * c.args.size.columns) = 
-        let top = c.top_row-begin.ensures in
-        behind-fits c.args.fresh c.top_row-begin.result c.args.size.columns c.args.n (length c.args.out.now) top.begins top.none c.requires.room_fresh c.requires.room_behind in
+    let fits : (c.top_row-begin.result ≤ length c.args.out.now) × (length c.args.out.now - c.top_row-begin.result ≡ c.args.n * c.args.size.columns) =
+    let top = c.top_row-begin.ensures in
+    behind-fits c.args.fresh c.top_row-begin.result c.args.size.columns c.args.n (length c.args.out.now) top.begins top.none c.requires.room_fresh c.requires.room_behind in
     let x : Inputs = inputs c.args.size c.args.f.now c.args.g.now c.args.window c.args.shift c.args.plane in
     let top = c.top_row-begin in
     let rest = c.after in

@@ -1,14 +1,12 @@
 -- `edges::narrow::top_row` meets its contract. Assumes nothing.
-use borrow.Author.Rules.{rules}
 use mathlib.Core.Path.{◌≡◌, refl, sym, ◌∙◌}
 use Prim.Native.Nat.{◌-◌}
 use native.Mathlib.Omega.{arith}
 use lib.Dec.{T}
-use lib.ListN.{length}
 use mir.Facts.{to_z-of_z}
 use mir.Syntax.{w64}
 use mir.Val.{SFits}
-use Rattle.numbers.proofs.Tests.{of-not, not-true}
+use Rattle.numbers.proofs.Tests.{of-not}
 use Rattle.numbers.proofs.Writes.{slice-length}
 use Rattle.picture.specs.Picture.{Inputs, inputs}
 use Rattle.picture.proofs.Refusals.{in-limits}

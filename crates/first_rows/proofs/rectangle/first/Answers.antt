@@ -1,15 +1,11 @@
 -- `first_rows::rectangle::first` meets its contract. Assumes nothing.
-use borrow.Author.Rules.{rules}
-use mathlib.Core.Path.{◌≡◌, sym, ap, ◌∙◌}
-use Prim.Native.Nat.{ℕ, ◌-◌, ◌≤◌}
+use Prim.Native.Nat.{ℕ}
 use native.Mathlib.Omega.{arith}
 use lib.IntN.{ℤ}
-use lib.ListN.{length}
-use Rattle.numbers.proofs.Grids.{length-tabulate}
 use Rattle.picture.specs.Picture.{Source, source, plane_at}
 use Rattle.picture.proofs.Refusals.{in-limits}
 use Rattle.picture.proofs.Planes.{plane-bound, plane-past}
-use Rattle.steps.proofs.Columns.{columns_to, columns-none, columns-more, columns-all}
+use Rattle.steps.proofs.Columns.{columns-none, columns-more, columns-all}
 use Rattle.first_rows.proofs.rectangle.first.Goals as goal
 
 pub high-end-requires : goal.high-end-requires
@@ -25,8 +21,7 @@ pub loop-m-preserved : goal.loop-m-preserved
 loop-m-preserved c =
     let pictures : Source = source c.args.size c.args.f.now c.args.g.now c.args.shift c.args.plane in
     let plane : ℕ → ℕ → ℤ = plane_at pictures in
-    let l = c.loop-m in
-    (
+    let l = c.loop-m in (
       omega arith,
       columns-more plane c.args.size.columns l.m c.args.size.rows _ _ (λ j. plane-past pictures c.args.size.rows j (omega arith)) l.invariant.1 c.exchange.ensures,
     )

@@ -1,15 +1,8 @@
 -- What the loops of `first_rows::rectangle::first` keep. Assumes nothing.
-use borrow.Author.Rules.{rules}
-use mathlib.Core.Path.{◌≡◌, sym, ap, ◌∙◌}
-use Prim.Native.Nat.{ℕ, ◌-◌, ◌≤◌}
-use native.Mathlib.Omega.{arith}
-use lib.IntN.{ℤ}
-use lib.ListN.{length}
-use Rattle.numbers.proofs.Grids.{length-tabulate}
-use Rattle.picture.specs.Picture.{Source, source, plane_at}
-use Rattle.picture.proofs.Refusals.{in-limits}
-use Rattle.picture.proofs.Planes.{plane-bound, plane-past}
-use Rattle.steps.proofs.Columns.{columns_to, columns-none, columns-more, columns-all}
+use mathlib.Core.Path.{◌≡◌}
+use Prim.Native.Nat.{◌-◌, ◌≤◌}
+use Rattle.picture.specs.Picture.{source, plane_at}
+use Rattle.steps.proofs.Columns.{columns_to}
 use Rattle.first_rows.proofs.rectangle.first.Given as goal
 
 abbrev pub invariant-loop-m : goal.invariant-loop-m

@@ -1,5 +1,4 @@
 -- `padding::narrow::values` meets its contract. Assumes nothing.
-use borrow.Author.Rules.{rules}
 use native.Mathlib.Omega.{arith}
 use Rattle.plane_values.proofs.ByPlane.{plane-0, plane-1, plane-2, tabulate-as}
 use Rattle.padding.proofs.narrow.values.Goals as goal

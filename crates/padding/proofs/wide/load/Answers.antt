@@ -1,10 +1,9 @@
 -- `padding::wide::load` meets its contract. Assumes nothing.
-use borrow.Author.Rules.{rules}
 use mathlib.Core.Path.{◌≡◌, ◌∙◌, ap}
 use Prim.Native.Nat.{ℕ, ◌+◌, ◌-◌, ◌≤◌}
 use native.Mathlib.Omega.{arith}
 use lib.ListN.{length, take, drop}
-use Rattle.numbers.proofs.Writes.{slice-length, part_length}
+use Rattle.numbers.proofs.Writes.{slice-length}
 use Rattle.picture.specs.Picture.{Source, source, plane_at}
 use Rattle.picture.proofs.Refusals.{in-limits}
 use Rattle.picture.proofs.Planes.{plane-past, plane-beside}

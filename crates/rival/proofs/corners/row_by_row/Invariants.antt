@@ -1,5 +1,5 @@
 -- What the loops of `rival::corners::row_by_row` keep. Assumes nothing.
-use Rattle.std.proofs.Common.{◌-◌, ◌≤◌, rules}
+use Rattle.std.proofs.Common.{◌-◌, ◌≤◌}
 use Rattle.rival.proofs.corners.row_by_row.Given as goal
 
 abbrev pub invariant-loop-m : goal.invariant-loop-m

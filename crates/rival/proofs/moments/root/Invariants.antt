@@ -1,5 +1,5 @@
 -- What the loops of `rival::moments::root` keep. Assumes nothing.
-use Rattle.std.proofs.Common.{◌≤◌, rules}
+use Rattle.std.proofs.Common.{◌≤◌}
 use Rattle.rival.proofs.moments.root.Given as goal
 
 abbrev pub invariant-loop-bit : goal.invariant-loop-bit

@@ -1,5 +1,5 @@
 -- What the loops of `rival::recurrence::moved` keep. Assumes nothing.
-use Rattle.std.proofs.Common.{◌-◌, ◌≤◌, rules}
+use Rattle.std.proofs.Common.{◌-◌, ◌≤◌}
 use Rattle.rival.proofs.recurrence.moved.Given as goal
 
 abbrev pub invariant-loop-i : goal.invariant-loop-i

@@ -1,5 +1,5 @@
 -- What the loops of `rival::recurrence::slanted` keep. Assumes nothing.
-use Rattle.std.proofs.Common.{◌-◌, ◌≤◌, rules}
+use Rattle.std.proofs.Common.{◌-◌, ◌≤◌}
 use Rattle.rival.proofs.recurrence.slanted.Given as goal
 
 abbrev pub invariant-loop-n : goal.invariant-loop-n

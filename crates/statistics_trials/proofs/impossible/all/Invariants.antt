@@ -1,5 +1,4 @@
 -- What the loops of `statistics_trials::impossible::all` keep. Assumes nothing.
-use borrow.Author.Rules.{rules}
 use Prim.Native.Nat.{◌-◌, ◌≤◌}
 use Rattle.statistics_trials.proofs.impossible.all.Given as goal
 

@@ -1,5 +1,4 @@
 -- What the loops of `statistics_trials::six_sums::all_wide` keep. Assumes nothing.
-use borrow.Author.Rules.{rules}
 use Prim.Native.Nat.{◌-◌, ◌≤◌}
 use Rattle.statistics_trials.proofs.six_sums.all_wide.Given as goal
 

@@ -1,6 +1,4 @@
 -- `steps::step::add_gain` meets its contract. Assumes nothing.
-use borrow.Author.Rules.{rules}
-use Prim.Native.Nat.{◌≤◌, ◌<◌}
 use Rattle.picture.specs.Picture.{Source, source, plane_at}
 use Rattle.picture.proofs.Planes.{plane-past}
 use Rattle.steps.proofs.RowCells.{gain-both, gain-enter}

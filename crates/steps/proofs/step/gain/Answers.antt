@@ -1,6 +1,4 @@
 -- `steps::step::gain` meets its contract. Assumes nothing.
-use borrow.Author.Rules.{rules}
-use mathlib.Core.Path.{◌∙◌}
 use Rattle.picture.specs.Picture.{source, plane_at}
 use Rattle.session.specs.Rows.{enter_leave}
 use Rattle.steps.proofs.RowCells.{gain-alone}

@@ -1,5 +1,4 @@
 -- What the loops of `sum_trials::limits::all` keep. Assumes nothing.
-use borrow.Author.Rules.{rules}
 use Prim.Native.Nat.{◌-◌, ◌≤◌}
 use Rattle.sum_trials.proofs.limits.all.Given as goal
 

@@ -1,5 +1,4 @@
 -- What the loops of `sum_trials::tables::at_cells` keep. Assumes nothing.
-use borrow.Author.Rules.{rules}
 use Prim.Native.Nat.{◌-◌, ◌≤◌}
 use Rattle.sum_trials.proofs.tables.at_cells.Given as goal
 

@@ -1,5 +1,4 @@
 -- What the loops of `sum_trials::tables::of_cases` keep. Assumes nothing.
-use borrow.Author.Rules.{rules}
 use Prim.Native.Nat.{◌-◌, ◌≤◌}
 use Rattle.sum_trials.proofs.tables.of_cases.Given as goal
 

@@ -1,5 +1,5 @@
 -- What the loops of `trial_tools::areas::compare_levels` keep. Assumes nothing.
-use Rattle.std.proofs.Common.{◌-◌, ◌≤◌, rules}
+use Rattle.std.proofs.Common.{◌-◌, ◌≤◌}
 use Rattle.trial_tools.proofs.areas.compare_levels.Given as goal
 
 abbrev pub invariant-loop-k : goal.invariant-loop-k

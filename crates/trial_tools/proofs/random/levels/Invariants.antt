@@ -1,5 +1,5 @@
 -- What the loops of `trial_tools::random::levels` keep. Assumes nothing.
-use Rattle.std.proofs.Common.{◌≡◌, ◌-◌, length, rules}
+use Rattle.std.proofs.Common.{◌≡◌, ◌-◌, length}
 use Rattle.trial_tools.proofs.random.levels.Given as goal
 
 abbrev pub invariant-loop-k : goal.invariant-loop-k

@@ -1,5 +1,4 @@
 -- `c_panel::ls_panel` meets its contract. Assumes nothing.
-use borrow.Author.Rules.{rules}
 use mathlib.Core.Path.{◌≡◌, ◌∙◌}
 use mathlib.Core.List.{List}
 use Prim.Native.Nat.{ℕ, ◌<◌, ◌≤◌}
@@ -10,8 +9,7 @@ use Rattle.panel_text.specs.Rendered.{rendered}
 use Rattle.replies.specs.Reply.{without_value, with_value}
 use Rattle.c_panel.specs.PanelReply.{panel_reply}
 use Rattle.replies.proofs.Replies.{without-value, with_value_lem}
-use Rattle.c_panel.proofs.ls_panel.Statement.{statement}
-use Rattle.c_panel.proofs.ls_panel.Tie as tie
+use Rattle.c_panel.proofs.ls_panel.Goals as goal
 
 module _ (text out : List ℕ) where
   -- an area that is too short
@@ -28,23 +26,14 @@ module _ (text out : List ℕ) where
   unfolding panel_reply
   room-reply h = rw (panel_reply, le-ltb (length out) 28672 h)
 
-returns : tie.Need-returns
+pub returns-then-out-lt28672 : goal.returns-then-out-lt28672
+returns-then-out-lt28672 c =
+    let h = c.if-out-lt28672.true in
+    let r = without-value c.args.written.now _ _ (short-reply _ _ h) in
+    record { status = r.0; area = short-kept _ _ h; written = r.1 }
+
+pub returns : goal.returns
 returns c =
-    let h = c.if1.true in
-    let r = without-value _ _ _ (short-reply _ _ h) in
-    (r.0, (short-kept _ _ h, r.1))
-
-render-requires : tie.Need-render-requires
-render-requires c κs = search rules
-
-same_length : tie.Need-same-length
-same_length c = search rules
-
-returns-2 : tie.Need-returns-2
-returns-2 c =
-    let e = c.before.before.render.ensures in
-    let r = with_value_lem _ _ _ (room-reply _ _ c.before.before.before.before.if1.false) in
-    (r.0, (e.1, e.0 ∙ r.1))
-
-pub ls-panel-spec : {M : Type 1} → statement M
-ls-panel-spec = tie.close (tie.spec returns render-requires same_length returns-2)
+    let e = c.render.ensures in
+    let r = with_value_lem c.args.written.now _ _ (room-reply _ _ c.if-out-lt28672.false) in
+    record { status = r.0; area = e.area; written = e.count ∙ r.1 }
