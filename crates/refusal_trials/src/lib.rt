@@ -236,12 +236,12 @@ fn by_numbers(rt: &impl Print, last: u64) -> io::Result<()> {
     let mut n = 0u64;
     while n < last {
         n += 1;
-        tally::print_numbered(rt, "calls refused by ", n, by_number(n))?;
+        tally::print_numbered(rt, b"calls refused by ", n, by_number(n))?;
     }
     Ok(())
 }
 
 pub fn run(rt: &impl Print) -> io::Result<()> {
-    tally::print(rt, "calls taken", by_number(0))?;
+    tally::print(rt, b"calls taken", by_number(0))?;
     by_numbers(rt, 8)
 }

@@ -273,6 +273,6 @@ fn lists(trials: usize, fresh: bool) -> Tally {
 }
 
 pub fn run(rt: &impl Print) -> io::Result<()> {
-    tally::print(rt, "rows of fresh sessions", lists(108, true))?;
-    tally::print(rt, "rows of foreign sessions", lists(216, false))
+    tally::print(rt, b"rows of fresh sessions", lists(108, true))?;
+    tally::print(rt, b"rows of foreign sessions", lists(216, false))
 }

@@ -128,6 +128,6 @@ fn of_cases(trials: usize) -> Tallies {
 
 pub fn run(rt: &impl Print) -> io::Result<()> {
     let t = of_cases(288);
-    tally::print(rt, "smoothed cells", t.means)?;
-    tally::print(rt, "steady searches", t.steady)
+    tally::print(rt, b"smoothed cells", t.means)?;
+    tally::print(rt, b"steady searches", t.steady)
 }

@@ -90,6 +90,6 @@ fn all(from: usize, to: usize, number: u64) -> Tally {
 }
 
 pub fn run(rt: &impl Print) -> io::Result<()> {
-    tally::print_numbered(rt, "calls refused by ", 9, all(0, 28, 9))?;
-    tally::print(rt, "statistics of sums at their limits", all(28, 36, 0))
+    tally::print_numbered(rt, b"calls refused by ", 9, all(0, 28, 9))?;
+    tally::print(rt, b"statistics of sums at their limits", all(28, 36, 0))
 }

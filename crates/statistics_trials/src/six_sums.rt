@@ -228,7 +228,7 @@ fn widest(t: Tally) -> Tally {
 }
 
 pub fn run(rt: &impl Print) -> io::Result<()> {
-    tally::print(rt, "named sums", all_named(13))?;
-    tally::print(rt, "sums of the largest windows", widest(all_wide(10)))?;
-    tally::print(rt, "sums of pictures", of_cases(360))
+    tally::print(rt, b"named sums", all_named(13))?;
+    tally::print(rt, b"sums of the largest windows", widest(all_wide(10)))?;
+    tally::print(rt, b"sums of pictures", of_cases(360))
 }

@@ -63,5 +63,5 @@ fn of_cases(trials: usize, small: usize) -> Tally {
 }
 
 pub fn run(rt: &impl Print) -> io::Result<()> {
-    tally::print(rt, "direct sums", of_cases(360, 288))
+    tally::print(rt, b"direct sums", of_cases(360, 288))
 }

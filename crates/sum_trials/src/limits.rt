@@ -94,5 +94,5 @@ fn all(limits: usize) -> Tally {
 }
 
 pub fn run(rt: &impl Print) -> io::Result<()> {
-    tally::print(rt, "limits", all(23))
+    tally::print(rt, b"limits", all(23))
 }

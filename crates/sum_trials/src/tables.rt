@@ -121,7 +121,7 @@ fn of_cases(trials: usize, small: usize) -> Tallies {
 
 pub fn run(rt: &impl Print) -> io::Result<()> {
     let t = of_cases(264, 216);
-    tally::print(rt, "table entries", t.entries)?;
-    tally::print(rt, "readings of built tables", t.built)?;
-    tally::print(rt, "readings of foreign tables", t.foreign)
+    tally::print(rt, b"table entries", t.entries)?;
+    tally::print(rt, b"readings of built tables", t.built)?;
+    tally::print(rt, b"readings of foreign tables", t.foreign)
 }

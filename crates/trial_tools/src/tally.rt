@@ -1,5 +1,6 @@
 // What a group of trials has compared: how many things, how many of them differed, and a checksum of what the library gave.
 use std::io;
+use std::io::Write;
 
 #[derive(Clone, Copy)]
 pub struct Tally {
@@ -64,14 +65,15 @@ fn sign(z: i64) -> u64 {
 }
 
 // The line of a group.
-pub fn print(rt: &impl Print, name: &str, tally: Tally) -> io::Result<()> {
-    print!(rt; "{name}")?;
+pub fn print(rt: &impl Print, name: &[u8], tally: Tally) -> io::Result<()> {
+    io::writer(rt).write_all(name)?;
     print_counts(rt, tally)
 }
 
 // The line of a group that has a number.
-pub fn print_numbered(rt: &impl Print, name: &str, number: u64, tally: Tally) -> io::Result<()> {
-    print!(rt; "{name}{number}")?;
+pub fn print_numbered(rt: &impl Print, name: &[u8], number: u64, tally: Tally) -> io::Result<()> {
+    io::writer(rt).write_all(name)?;
+    print!(rt; "{number}")?;
     print_counts(rt, tally)
 }
 

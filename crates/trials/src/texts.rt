@@ -165,7 +165,7 @@ pub fn run(rt: &impl Print) -> io::Result<()> {
     let accepted = long(*b"1 1 1 0 0 5", b"5\n", short);
     tally::print(
         rt,
-        "panel texts",
+        b"panel texts",
         long(*b"257 1 1 0 0", b"refused 1\n", accepted),
     )
 }
