@@ -16,6 +16,8 @@ ROOT = Path(__file__).resolve().parent.parent
 CRATES = "crates.txt"
 README = "README.md"
 TRACE = "docs/TRACE.md"
+# It names what stood before, and is not read.
+PORT = "docs/PORT.md"
 DECISIONS = "docs/DECISIONS.md"
 FOLDERS = ("bench", "bindings", "crates", "docs", "include", "samples", "tests")
 # What begins a comment of the source; the documents are read whole.
@@ -37,7 +39,7 @@ def tree():
         for place, below, files in os.walk(ROOT / folder):
             below[:] = [name for name in below if name not in ("out", "target") and not name.startswith(".")]
             for file in (Path(place, name) for name in files):
-                read = kind(file.name) in (*COMMENTS, "md")
+                read = kind(file.name) in (*COMMENTS, "md") and file.relative_to(ROOT).as_posix() != PORT
                 texts[file.relative_to(ROOT).as_posix()] = file.read_text(encoding="utf-8") if read else ""
     return texts
 
