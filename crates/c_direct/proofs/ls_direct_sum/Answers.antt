@@ -18,10 +18,8 @@ use Rattle.c_direct.proofs.ls_direct_sum.Goals as goal
 
 pub overflow_cast-result : goal.overflow_cast-result
 overflow_cast-result c =
-    let asked : Outcome ℤ = direct_call (inputs (size c.args.rows c.args.columns) c.args.f.now c.args.g.now (window c.args.shape c.args.first c.args.second) (shift c.args.down c.args.right) c.args.plane) c.args.row c.args.column in
-    let answer-is : asked ≡ sum_outcome c.direct_sum.result = let f = c.ranges in sym (simp (to_z-of_z, f.first, f.second, f.down, f.right) at c.direct_sum.ensures) in
-    let refused-is : asked ≡ refused c.in-Refused.number = answer-is ∙ ap sum_outcome c.in-Refused.is in
-    small-fits (direct-small _ _ _ _ refused-is)
+    let f = c.ranges in
+    small-fits (direct-small _ _ _ _ (sym (simp (to_z-of_z, f.first, f.second, f.down, f.right) at c.direct_sum.ensures) ∙ ap sum_outcome c.in-Refused.is))
 
 pub returns-in-Refused : goal.returns-in-Refused
 returns-in-Refused c =

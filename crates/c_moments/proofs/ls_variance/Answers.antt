@@ -16,10 +16,8 @@ use Rattle.c_moments.proofs.ls_variance.Goals as goal
 
 pub overflow_cast-result : goal.overflow_cast-result
 overflow_cast-result c =
-    let asked : Outcome (Option ℤ) = variance_call (sums c.args.n c.args.s c.args.t c.args.a c.args.b c.args.p) in
-    let answer-is : asked ≡ whole_outcome c.variance.result = let f = c.ranges in sym (simp (to_z-of_z, f.n, f.s, f.t, f.a, f.b, f.p) at c.variance.ensures) in
-    let refused-is : asked ≡ refused c.in-Refused.number = answer-is ∙ ap whole_outcome c.in-Refused.is in
-    small-fits (variance-small _ _ refused-is)
+    let f = c.ranges in
+    small-fits (variance-small _ _ (sym (simp (to_z-of_z, f.n, f.s, f.t, f.a, f.b, f.p) at c.variance.ensures) ∙ ap whole_outcome c.in-Refused.is))
 
 pub returns-in-Refused : goal.returns-in-Refused
 returns-in-Refused c =

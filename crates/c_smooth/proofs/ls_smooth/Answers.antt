@@ -13,10 +13,8 @@ use Rattle.c_smooth.proofs.ls_smooth.Goals as goal
 
 pub overflow_cast-result : goal.overflow_cast-result
 overflow_cast-result c =
-    let asked : Filling = smooth_call (size c.args.rows c.args.columns) c.args.f.now (window c.args.shape c.args.first c.args.second) c.args.out.now in
-    let answer-is : asked.answer ≡ fill_outcome c.smooth.result = let f = c.ranges in sym (simp (to_z-of_z, f.first, f.second) at c.smooth.ensures.answer) in
-    let refused-is : asked.answer ≡ refused c.in-Refused.number = answer-is ∙ ap fill_outcome c.in-Refused.is in
-    small-fits (smooth-small _ _ _ _ _ refused-is)
+    let f = c.ranges in
+    small-fits (smooth-small _ _ _ _ _ (sym (simp (to_z-of_z, f.first, f.second) at c.smooth.ensures.answer) ∙ ap fill_outcome c.in-Refused.is))
 
 pub returns-in-Refused : goal.returns-in-Refused
 returns-in-Refused c =

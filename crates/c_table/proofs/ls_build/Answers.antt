@@ -13,10 +13,8 @@ use Rattle.c_table.proofs.ls_build.Goals as goal
 
 pub overflow_cast-result : goal.overflow_cast-result
 overflow_cast-result c =
-    let asked : Filling = build_call (source (size c.args.rows c.args.columns) c.args.f.now c.args.g.now (shift c.args.down c.args.right) c.args.plane) c.args.table.now in
-    let answer-is : asked.answer ≡ fill_outcome c.build.result = let f = c.ranges in sym (simp (to_z-of_z, f.down, f.right) at c.build.ensures.answer) in
-    let refused-is : asked.answer ≡ refused c.in-Refused.number = answer-is ∙ ap fill_outcome c.in-Refused.is in
-    small-fits (build-small _ _ _ refused-is)
+    let f = c.ranges in
+    small-fits (build-small _ _ _ (sym (simp (to_z-of_z, f.down, f.right) at c.build.ensures.answer) ∙ ap fill_outcome c.in-Refused.is))
 
 pub returns-in-Refused : goal.returns-in-Refused
 returns-in-Refused c =

@@ -17,10 +17,8 @@ use Rattle.c_table.proofs.ls_read.Goals as goal
 
 pub overflow_cast-result : goal.overflow_cast-result
 overflow_cast-result c =
-    let asked : Outcome ℤ = read_call (size c.args.rows c.args.columns) c.args.table.now (window c.args.shape c.args.first c.args.second) c.args.row c.args.column in
-    let answer-is : asked ≡ sum_outcome c.read.result = let f = c.ranges in sym (simp (to_z-of_z, f.first, f.second) at c.read.ensures) in
-    let refused-is : asked ≡ refused c.in-Refused.number = answer-is ∙ ap sum_outcome c.in-Refused.is in
-    small-fits (read_small _ _ _ _ _ _ refused-is)
+    let f = c.ranges in
+    small-fits (read_small _ _ _ _ _ _ (sym (simp (to_z-of_z, f.first, f.second) at c.read.ensures) ∙ ap sum_outcome c.in-Refused.is))
 
 pub returns-in-Refused : goal.returns-in-Refused
 returns-in-Refused c =
