@@ -283,7 +283,7 @@ DAMAGES = [
     ("another module", TRACE, r"steps::step::add_gain", "steps::change::add_gain"),
     ("another edit", TRACE, r"checks/plane_6`", "checks/plane_7`"),
     ("an edit of a crate that is gone", TRACE, r"The edits of `wrapping`", "The edits of `arithmetic`"),
-    ("an old text that is nowhere", "crates/checks/must-fail/plane_6.edit", r"old: +if plane", "old: if the plane"),
+    ("an old text that is nowhere", "crates/checks/must-fail/plane_6.edit", r"old: +const", "old: the const"),
     ("an old text that is not the only one", "crates/checks/must-fail/plane_6.edit", r"(?m)^old: .*$", "old: plane"),
     ("an edit that replaces nothing", "crates/checks/must-fail/plane_6.edit", r"(?m)^new:.*$", ""),
     ("a crate missing", README, r"\n\|[^\n]*`plane_values`[^\n]*", ""),

@@ -25,6 +25,9 @@ pub fn pictures_refusal(size: Size, f: &[i16], g: &[i16]) -> u32
     0
 }
 
+// The number of the last plane.
+const LAST_PLANE: u32 = 5;
+
 // 1 to 5: the conditions that look at the inputs alone.
 pub fn inputs_refusal(
     size: Size,
@@ -46,7 +49,7 @@ pub fn inputs_refusal(
     if !legal_windows::shift_legal(shift) {
         return 4;
     }
-    if plane > 5 {
+    if plane > LAST_PLANE {
         return 5;
     }
     0
