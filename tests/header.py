@@ -17,6 +17,7 @@ REFUSALS = "bindings/rust/src/refusal.rs"
 CONDITIONS = "crates/picture/specs/Conditions.antt"
 SIX_SUMS = "crates/statistics/specs/SixSums.antt"
 WINDOWS = "crates/legal_windows/src/lib.rt"
+LINES = "crates/picture/src/lib.rt"
 PANEL = "crates/panel_language/specs/Panel.antt"
 
 # What a number of Rattle, or of Rust, is in C.
@@ -33,22 +34,22 @@ C_TYPES = {
 # Where each constant of the header stands as a literal, `@` for its digits; a run of blanks matches any other.
 CONSTANTS = {
     "LS_OK": [(BINDING, "OK: i32 = @;")],
-    "LS_REFUSED_SIZE": [(CONDITIONS, "@ when not (size_legal z)"), (REFUSALS, " Size = @,")],
-    "LS_REFUSED_PICTURE": [(CONDITIONS, "@ when not (eqb (length f) (cells z))"), (REFUSALS, " Picture = @,")],
-    "LS_REFUSED_WINDOW": [(CONDITIONS, "@ when not (window_legal w)"), (REFUSALS, " Window = @,")],
-    "LS_REFUSED_SHIFT": [(CONDITIONS, "@ when not (shift_legal d)"), (REFUSALS, " Shift = @,")],
-    "LS_REFUSED_PLANE": [(CONDITIONS, "@ when ltb 5 p"), (REFUSALS, " Plane = @,")],
-    "LS_REFUSED_CELL": [(CONDITIONS, "@ when not (ltb i z.rows"), (REFUSALS, " Cell = @,")],
-    "LS_REFUSED_REQUEST": [(CONDITIONS, "@ when (ltb z.rows position"), (REFUSALS, " Request = @,")],
-    "LS_REFUSED_AREA": [(CONDITIONS, "@ when not (eqb given wanted)"), (REFUSALS, " Area = @,")],
-    "LS_REFUSED_SUMS": [(SIX_SUMS, "(@ when impossible z)"), (REFUSALS, " Sums = @,")],
-    "LS_REFUSED_TEXT": [(PANEL, "framed z w none = refused @")],
+    "LS_REFUSED_SIZE": [(LINES, "Refusal::Size => @,"), (CONDITIONS, "@ when not (size_legal z)"), (REFUSALS, " Size = @,")],
+    "LS_REFUSED_PICTURE": [(LINES, "Refusal::Length => @,"), (CONDITIONS, "@ when not (eqb (length f) (cells z))"), (REFUSALS, " Picture = @,")],
+    "LS_REFUSED_WINDOW": [(LINES, "Refusal::Window => @,"), (CONDITIONS, "@ when not (window_legal w)"), (REFUSALS, " Window = @,")],
+    "LS_REFUSED_SHIFT": [(LINES, "Refusal::Shift => @,"), (CONDITIONS, "@ when not (shift_legal d)"), (REFUSALS, " Shift = @,")],
+    "LS_REFUSED_PLANE": [(LINES, "Refusal::Plane => @,"), (CONDITIONS, "@ when ltb 5 p"), (REFUSALS, " Plane = @,")],
+    "LS_REFUSED_CELL": [(LINES, "Refusal::Cell => @,"), (CONDITIONS, "@ when not (ltb i z.rows"), (REFUSALS, " Cell = @,")],
+    "LS_REFUSED_REQUEST": [(LINES, "Refusal::Position => @,"), (CONDITIONS, "@ when (ltb z.rows position"), (REFUSALS, " Request = @,")],
+    "LS_REFUSED_AREA": [(LINES, "Refusal::Area => @,"), (CONDITIONS, "@ when not (eqb given wanted)"), (REFUSALS, " Area = @,")],
+    "LS_REFUSED_SUMS": [(LINES, "Refusal::Sums => @,"), (SIX_SUMS, "(@ when impossible z)"), (REFUSALS, " Sums = @,")],
+    "LS_REFUSED_TEXT": [(LINES, "Refusal::Text => @,"), (PANEL, "framed z w None = refused @")],
     "LS_EMPTY": [(REPLIES, "const EMPTY: i32 = @;"), (BINDING, "const EMPTY: i32 = @;")],
     "LS_FLAT": [(REPLIES, "const FLAT: i32 = @;"), (BINDING, "const FLAT: i32 = @;")],
     "LS_NOWHERE": [(REPLIES, "const NOWHERE: i32 = @;"), (BINDING, "const NOWHERE: i32 = @;")],
-    "LS_RECTANGLE": [(WINDOWS, "if shape == @ { return rectangle_legal("), (TYPES, "shape: @, first: a, second: b")],
-    "LS_DIAMOND": [(WINDOWS, "if shape == @ { return diamond_legal("), (TYPES, "shape: @, first: r, second: 0")],
-    "LS_HEXAGON": [(WINDOWS, "if shape == @ { return hexagon_legal("), (TYPES, "shape: @, first: k, second: h")],
+    "LS_RECTANGLE": [(WINDOWS, "@ => rectangle_legal("), (TYPES, "shape: @, first: a, second: b")],
+    "LS_DIAMOND": [(WINDOWS, "@ => diamond_legal("), (TYPES, "shape: @, first: r, second: 0")],
+    "LS_HEXAGON": [(WINDOWS, "@ => hexagon_legal("), (TYPES, "shape: @, first: k, second: h")],
     "LS_PLANE_ONE": [(SIX_SUMS, " n = direct_sum (on_plane x @)"), (TYPES, "ONE: Plane = Plane(@)")],
     "LS_PLANE_F": [(SIX_SUMS, " s = direct_sum (on_plane x @)"), (TYPES, "F: Plane = Plane(@)")],
     "LS_PLANE_G": [(SIX_SUMS, " t = direct_sum (on_plane x @)"), (TYPES, "G: Plane = Plane(@)")],
@@ -223,6 +224,7 @@ DAMAGES = [
     ("a function missing", BINDING, r"fn ls_panel\([^;]*;", ""),
     ("another limit", TYPES, r"PANEL_ROOM: usize = 28672", "PANEL_ROOM: usize = 28671"),
     ("another refusal", REFUSALS, r"Cell = 6", "Cell = 7"),
+    ("another refusal", LINES, r"Refusal::Area => 8", "Refusal::Area => 7"),
 ]
 
 

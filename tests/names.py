@@ -16,8 +16,8 @@ ROOT = Path(__file__).resolve().parent.parent
 CRATES = "crates.txt"
 README = "README.md"
 TRACE = "docs/TRACE.md"
-# It names what stood before, and is not read.
-PORT = "docs/PORT.md"
+# They name what stood before, and are not read.
+BEFORE = ("docs/PORT.md", "docs/DESIGN-PASS.md")
 DECISIONS = "docs/DECISIONS.md"
 FOLDERS = ("bench", "bindings", "crates", "docs", "include", "samples", "tests")
 # What begins a comment of the source; the documents are read whole.
@@ -39,7 +39,7 @@ def tree():
         for place, below, files in os.walk(ROOT / folder):
             below[:] = [name for name in below if name not in ("out", "target") and not name.startswith(".")]
             for file in (Path(place, name) for name in files):
-                read = kind(file.name) in (*COMMENTS, "md") and file.relative_to(ROOT).as_posix() != PORT
+                read = kind(file.name) in (*COMMENTS, "md") and file.relative_to(ROOT).as_posix() not in BEFORE
                 texts[file.relative_to(ROOT).as_posix()] = file.read_text(encoding="utf-8") if read else ""
     return texts
 
@@ -125,10 +125,12 @@ def code_in(texts):
 
 
 def has_item(code, name):
-    """`crate::fn` anywhere in the crate, `crate::module::fn` in the file of that module."""
+    """`crate::fn` anywhere in the crate, `crate::module::fn` in the file of that module, `crate::Type::fn` in a file that declares the type."""
     crate, _, rest = name.partition("::")
     module, _, item = rest.rpartition("::")
     files = code.get(crate, {})
+    if module[:1].isupper():
+        return any({module, item} <= items(text) for text in files.values())
     return any(item in items(text) for text in ([files.get(module, "")] if module else files.values()))
 
 

@@ -12,10 +12,8 @@ fn total(work: &[i64], n: usize) -> i64
     ensures { result ≡ range_sum work.now 0 n }
 {
     let mut s = 0i64;
-    let mut k = 0;
-    while k < n {
+    for k in 0..n {
         s = wrapping::wrapping_add(s, work[k]);
-        k += 1;
     }
     s
 }
@@ -26,11 +24,9 @@ fn entering(work: &[i64], b: usize, end: usize, sum: i64, out: &mut [i64]) -> i6
     ensures { (result ≡ range_sum work.now 0 (end + b)) × Written (neighbour_sum work.now b) out.old out.new 0 end }
 {
     let mut s = sum;
-    let mut j = 0;
-    while j < end {
+    for j in 0..end {
         s = wrapping::wrapping_add(s, work[j + b]);
         out[j] = s;
-        j += 1;
     }
     s
 }
@@ -42,11 +38,9 @@ fn sliding(work: &[i64], b: usize, first: usize, end: usize, sum: i64, out: &mut
     ensures { (result ≡ range_sum work.now (end - b - 1) (end + b)) × Written (neighbour_sum work.now b) out.old out.new first end }
 {
     let mut s = sum;
-    let mut j = first;
-    while j < end {
+    for j in first..end {
         s = wrapping::wrapping_add(s, wrapping::wrapping_sub(work[j + b], work[j - b - 1]));
         out[j] = s;
-        j += 1;
     }
     s
 }
@@ -57,11 +51,9 @@ fn leaving(work: &[i64], b: usize, first: usize, sum: i64, out: &mut [i64])
     ensures { Written (neighbour_sum work.now b) out.old out.new first (length work.now) }
 {
     let mut s = sum;
-    let mut j = first;
-    while j < out.len() {
+    for j in first..out.len() {
         s = wrapping::wrapping_sub(s, work[j - b - 1]);
         out[j] = s;
-        j += 1;
     }
 }
 

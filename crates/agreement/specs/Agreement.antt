@@ -1,7 +1,7 @@
 -- "Words of demand 3": one claim about every list of row calls.
 --
 -- It is a claim about the code, because each contract gives the function's answer and areas by the very definition that stands here:
---   rows::rows, rows::rows_at and rows::rows_plain    answer, position, work and output area of `row_call`
+--   rows::Session::rows and rows::rows_at             answer, position, work and output area of `row_call`
 --   direct::direct_sum                                the answer of `direct_call`
 --   table::build, table::read                         answer and area of `build_call`; the answer of `read_call`
 --   moments::mean, variance, deviation, voice_answer  the answers of `mean_call`, `variance_call`, `deviation_call`, `voice_call`

@@ -2,59 +2,39 @@
 // For callers that have checked their inputs.
 #![tactic(auto)]
 
-ghost use Rattle.std.specs.Prelude.{◌≡◌, length};
+ghost use Rattle.std.specs.Prelude.{◌≡◌};
 ghost use Rattle.picture.specs.Window.{shape_of};
-ghost use Rattle.picture.specs.Picture.{source, inputs, plane_at};
+ghost use Rattle.picture.specs.Picture.{plane_at};
+ghost use Rattle.picture.specs.Given.{source_of, inputs_of};
 ghost use Rattle.session.specs.Rows.{work_after, output_row};
 ghost use Rattle.areas.specs.Asked.{OutputAsked};
 ghost use Rattle.steps.specs.Asked.{StepAsked};
 
 use first_rows::rectangle;
-use picture::{Shift, Size, Window};
+use picture::{Inputs, Size, Window};
 use steps::step;
 
 // The work area moves on to the row at a position: at position 0 it is not read. The room for a row serves on the way.
-fn area(
-    position: usize,
-    size: Size,
-    f: &[i16],
-    g: &[i16],
-    window: Window,
-    shift: Shift,
-    plane: u32,
-    work: &mut [i64],
-    row: &mut [i64],
-)
-    requires { StepAsked (inputs size f.now g.now window shift plane) position work.old row.old }
-    ensures { work.new ≡ work_after size (plane_at (source size f.now g.now shift plane)) (shape_of window) position work.old }
+fn area(position: usize, inputs: &Inputs<'_>, work: &mut [i64], row: &mut [i64])
+    requires { StepAsked (inputs_of inputs.now) position work.old row.old }
+    ensures { work.new ≡ work_after inputs.now.source.size (plane_at (source_of inputs.now.source)) (shape_of inputs.now.window) position work.old }
 {
-    if shape::is_rectangle(window) {
-        let a = shape::height(window);
+    if shape::is_rectangle(inputs.window) {
+        let a = shape::height(inputs.window);
         if position == 0 {
-            rectangle::first(size, f, g, shift, plane, a, work);
+            rectangle::first(&inputs.source, a, work);
             return;
         }
         let i = position - 1;
-        step::add_gain(size, f, g, shift, plane, i, a, work);
+        step::add_gain(&inputs.source, i, a, work);
         return;
     }
     if position == 0 {
-        first_rows::first(size, f, g, window, shift, plane, work, row);
+        first_rows::first(inputs, work, row);
         return;
     }
     let i = position - 1;
-    slanted::next(size, f, g, window, shift, plane, i, work, row);
-}
-
-fn copy(work: &[i64], out: &mut [i64])
-    requires { length out.old ≡ length work.now }
-    ensures { out.new ≡ work.now }
-{
-    let mut j = 0;
-    while j < out.len() {
-        out[j] = work[j];
-        j += 1;
-    }
+    slanted::next(inputs, i, work, row);
 }
 
 // The output row: of a rectangle the sums across the work area, of the others the work area.
@@ -66,25 +46,15 @@ fn output(size: Size, window: Window, work: &[i64], out: &mut [i64])
         across::across(work, shape::width(window), out);
         return;
     }
-    copy(work, out);
+    out.copy_from_slice(work);
 }
 
 // The work area moves on to the row at a position, and out is its output row.
-pub fn next(
-    position: usize,
-    size: Size,
-    f: &[i16],
-    g: &[i16],
-    window: Window,
-    shift: Shift,
-    plane: u32,
-    work: &mut [i64],
-    out: &mut [i64],
-)
-    requires { StepAsked (inputs size f.now g.now window shift plane) position work.old out.old }
-    ensures work { work.new ≡ work_after size (plane_at (source size f.now g.now shift plane)) (shape_of window) position work.old }
-    ensures out { out.new ≡ output_row size (shape_of window) (work_after size (plane_at (source size f.now g.now shift plane)) (shape_of window) position work.old) }
+pub fn next(position: usize, inputs: &Inputs<'_>, work: &mut [i64], out: &mut [i64])
+    requires { StepAsked (inputs_of inputs.now) position work.old out.old }
+    ensures work { work.new ≡ work_after inputs.now.source.size (plane_at (source_of inputs.now.source)) (shape_of inputs.now.window) position work.old }
+    ensures out { out.new ≡ output_row inputs.now.source.size (shape_of inputs.now.window) (work_after inputs.now.source.size (plane_at (source_of inputs.now.source)) (shape_of inputs.now.window) position work.old) }
 {
-    area(position, size, f, g, window, shift, plane, work, out);
-    output(size, window, work, out);
+    area(position, inputs, work, out);
+    output(inputs.source.size, inputs.window, work, out);
 }

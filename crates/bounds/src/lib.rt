@@ -4,7 +4,6 @@
 ghost use Rattle.std.specs.Prelude.{◌≡◌};
 ghost use Rattle.statistics.specs.SixSums.{unbounded};
 
-use machine::magnitude;
 use statistics::Sums;
 
 // The bounds of 9. N is tested first, so that its multiples fit.
@@ -12,19 +11,17 @@ pub fn unbounded(z: Sums) -> bool
     ensures { result ≡ unbounded z }
 {
     let n = z.n;
-    if n < 0 {
-        return true;
-    }
-    if n > 65025 {
+    if !(0..=65025).contains(&n) {
         return true;
     }
     let sum_bound = 32768 * (n as u64);
     let square_bound = 1073741824 * n;
-    (magnitude(z.s) > sum_bound)
-        | (magnitude(z.t) > sum_bound)
+    // All tests at once: with `||`, a branch for each, the proof stays open.
+    (z.s.unsigned_abs() > sum_bound)
+        | (z.t.unsigned_abs() > sum_bound)
         | (z.a < 0)
         | (z.a > square_bound)
         | (z.b < 0)
         | (z.b > square_bound)
-        | (magnitude(z.p) > square_bound as u64)
+        | (z.p.unsigned_abs() > square_bound as u64)
 }

@@ -5,8 +5,8 @@ ghost use Rattle.std.specs.Prelude.{◌≡◌};
 ghost use Rattle.statistics.specs.Coefficient.{coefficient_call};
 ghost use Rattle.replies.specs.Reply.{status, result_or, reply, sums, of_coefficient};
 
-use replies::{EMPTY, FLAT};
-use statistics::{CoefficientAnswer, Sums};
+use replies::{EMPTY, FLAT, refused};
+use statistics::{Coefficient, Sums};
 
 // `correlation::coefficient`: the coefficient of f and g.
 #[unsafe(no_mangle)]
@@ -24,12 +24,14 @@ pub extern "C" fn ls_coefficient(
 {
     let sums = Sums { n, s, t, a, b, p };
     match correlation::coefficient(sums) {
-        CoefficientAnswer::Refused(number) => number as i32,
-        CoefficientAnswer::Empty => EMPTY,
-        CoefficientAnswer::Flat => FLAT,
-        CoefficientAnswer::Value(c) => {
-            *coefficient = c;
-            0
-        }
+        Ok(answer) => match answer {
+            Coefficient::Empty => EMPTY,
+            Coefficient::Flat => FLAT,
+            Coefficient::Value(c) => {
+                *coefficient = c;
+                0
+            }
+        },
+        Err(refusal) => refused(refusal),
     }
 }

@@ -8,7 +8,8 @@ ghost use Rattle.picture.specs.Picture.{shift, inputs};
 ghost use Rattle.picture.specs.Direct.{direct_call};
 ghost use Rattle.replies.specs.Reply.{with_value, status, result_or, reply};
 
-use picture::{Cell, Shift, Size, SumAnswer, Window};
+use picture::{Cell, Inputs, Shift, Size, Source, Window};
+use replies::hand_back;
 
 // `direct::direct_sum`: the sum of a plane over the window on a cell.
 #[unsafe(no_mangle)]
@@ -30,19 +31,19 @@ pub extern "C" fn ls_direct_sum(
     ensures status { result ≡ status (reply with_value (direct_call (inputs (size rows columns) f.now g.now (window shape first second) (shift down right) plane) row column)) }
     ensures sum { sum.new ≡ result_or sum.old (reply with_value (direct_call (inputs (size rows columns) f.now g.now (window shape first second) (shift down right) plane) row column)) }
 {
-    let size = Size { rows, columns };
-    let window = Window {
-        shape,
-        first,
-        second,
+    let inputs = Inputs {
+        source: Source {
+            size: Size { rows, columns },
+            f,
+            g,
+            shift: Shift { down, right },
+            plane,
+        },
+        window: Window {
+            shape,
+            first,
+            second,
+        },
     };
-    let shift = Shift { down, right };
-    let cell = Cell { row, column };
-    match direct::direct_sum(size, f, g, window, shift, plane, cell) {
-        SumAnswer::Refused(number) => number as i32,
-        SumAnswer::Sum(s) => {
-            *sum = s;
-            0
-        }
-    }
+    hand_back(direct::direct_sum(&inputs, Cell { row, column }), sum)
 }

@@ -5,8 +5,8 @@ ghost use Rattle.std.specs.Prelude.{◌≡◌};
 ghost use Rattle.statistics.specs.Moments.{mean_call, variance_call, deviation_call};
 ghost use Rattle.replies.specs.Reply.{status, result_or, reply, sums, of_whole};
 
-use replies::EMPTY;
-use statistics::{Sums, WholeAnswer};
+use replies::{EMPTY, hand_back_or};
+use statistics::Sums;
 
 // `moments::mean`: the mean of f.
 #[unsafe(no_mangle)]
@@ -14,15 +14,7 @@ pub extern "C" fn ls_mean(n: i64, s: i64, t: i64, a: i64, b: i64, p: i64, mean: 
     ensures status { result ≡ status (reply of_whole (mean_call (sums n s t a b p))) }
     ensures mean { mean.new ≡ result_or mean.old (reply of_whole (mean_call (sums n s t a b p))) }
 {
-    let sums = Sums { n, s, t, a, b, p };
-    match moments::mean(sums) {
-        WholeAnswer::Refused(number) => number as i32,
-        WholeAnswer::Empty => EMPTY,
-        WholeAnswer::Whole(m) => {
-            *mean = m;
-            0
-        }
-    }
+    hand_back_or(moments::mean(Sums { n, s, t, a, b, p }), EMPTY, mean)
 }
 
 // `moments::variance`: the variance of f.
@@ -39,15 +31,11 @@ pub extern "C" fn ls_variance(
     ensures status { result ≡ status (reply of_whole (variance_call (sums n s t a b p))) }
     ensures variance { variance.new ≡ result_or variance.old (reply of_whole (variance_call (sums n s t a b p))) }
 {
-    let sums = Sums { n, s, t, a, b, p };
-    match moments::variance(sums) {
-        WholeAnswer::Refused(number) => number as i32,
-        WholeAnswer::Empty => EMPTY,
-        WholeAnswer::Whole(v) => {
-            *variance = v;
-            0
-        }
-    }
+    hand_back_or(
+        moments::variance(Sums { n, s, t, a, b, p }),
+        EMPTY,
+        variance,
+    )
 }
 
 // `moments::deviation`: the deviation of f.
@@ -64,13 +52,9 @@ pub extern "C" fn ls_deviation(
     ensures status { result ≡ status (reply of_whole (deviation_call (sums n s t a b p))) }
     ensures deviation { deviation.new ≡ result_or deviation.old (reply of_whole (deviation_call (sums n s t a b p))) }
 {
-    let sums = Sums { n, s, t, a, b, p };
-    match moments::deviation(sums) {
-        WholeAnswer::Refused(number) => number as i32,
-        WholeAnswer::Empty => EMPTY,
-        WholeAnswer::Whole(d) => {
-            *deviation = d;
-            0
-        }
-    }
+    hand_back_or(
+        moments::deviation(Sums { n, s, t, a, b, p }),
+        EMPTY,
+        deviation,
+    )
 }

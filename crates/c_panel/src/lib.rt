@@ -6,6 +6,9 @@ ghost use Rattle.panel_text.specs.Rendered.{rendered};
 ghost use Rattle.replies.specs.Reply.{status, result_or};
 ghost use Rattle.c_panel.specs.PanelReply.{panel_reply};
 
+use picture::Refusal;
+use replies::refused;
+
 // `panel_text::render`: what the program panel prints for a text, a refused text's line included. An area of fewer than 28,672 bytes,
 // which hold the longest output, is refused by 8.
 #[unsafe(no_mangle)]
@@ -15,7 +18,7 @@ pub extern "C" fn ls_panel(text: &[u8], out: &mut [u8], written: &mut usize) -> 
     ensures written { written.new ≡ result_or written.old (panel_reply text.now out.old) }
 {
     if out.len() < 28672 {
-        return 8;
+        return refused(Refusal::Area);
     }
     *written = panel_text::render(text, out);
     0

@@ -8,7 +8,10 @@ ghost use Rattle.picture.specs.Picture.{shift, inputs};
 ghost use Rattle.session.specs.Rows.{row_call};
 ghost use Rattle.replies.specs.Reply.{with_value, status, result_or, reply};
 
-// `rows::rows`: the sums of the next rows of a session, which in C is its position alone.
+use picture::{Inputs, Shift, Size, Source, Window};
+use replies::hand_back;
+
+// `rows::Session::rows`: the sums of the next rows of a session, which in C is its position alone.
 #[unsafe(no_mangle)]
 pub extern "C" fn ls_rows(
     position: &mut usize,
@@ -33,9 +36,22 @@ pub extern "C" fn ls_rows(
     ensures output { out.new ≡ (row_call (inputs (size rows columns) f.now g.now (window shape first second) (shift down right) plane) position.old request work.old out.old).output }
     ensures granted { granted.new ≡ result_or granted.old (reply with_value (row_call (inputs (size rows columns) f.now g.now (window shape first second) (shift down right) plane) position.old request work.old out.old).answer) }
 {
-    let moved = rows::rows_plain(
-        *position, rows, columns, f, g, shape, first, second, down, right, plane, request, work,
-        out,
-    );
-    c_answers::granted(moved, position, granted)
+    let inputs = Inputs {
+        source: Source {
+            size: Size { rows, columns },
+            f,
+            g,
+            shift: Shift { down, right },
+            plane,
+        },
+        window: Window {
+            shape,
+            first,
+            second,
+        },
+    };
+    hand_back(
+        rows::rows_at(&inputs, position, request, work, out),
+        granted,
+    )
 }

@@ -7,7 +7,8 @@ ghost use Rattle.picture.specs.Window.{window};
 ghost use Rattle.smoothed.specs.Smoothing.{smooth_call};
 ghost use Rattle.replies.specs.Reply.{with_value, status, reply};
 
-use picture::{FillAnswer, Size, Window};
+use picture::{Size, Window};
+use replies::done;
 
 // `smoothing::smooth`: the mean over the window at every cell.
 #[unsafe(no_mangle)]
@@ -29,8 +30,5 @@ pub extern "C" fn ls_smooth(
         first,
         second,
     };
-    match smoothing::smooth(size, f, window, out) {
-        FillAnswer::Refused(number) => number as i32,
-        FillAnswer::Done => 0,
-    }
+    done(smoothing::smooth(size, f, window, out))
 }

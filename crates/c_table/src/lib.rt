@@ -8,7 +8,8 @@ ghost use Rattle.picture.specs.Picture.{shift, source};
 ghost use Rattle.cumulative.specs.Table.{build_call, read_call};
 ghost use Rattle.replies.specs.Reply.{with_value, status, result_or, reply};
 
-use picture::{Cell, FillAnswer, Shift, Size, SumAnswer, Window};
+use picture::{Cell, Shift, Size, Source, Window};
+use replies::{done, hand_back};
 
 // `table::build`: fills the area with the cumulative table of a plane.
 #[unsafe(no_mangle)]
@@ -25,12 +26,14 @@ pub extern "C" fn ls_build(
     ensures status { result ≡ status (reply with_value (build_call (source (size rows columns) f.now g.now (shift down right) plane) table.old).answer) }
     ensures area { table.new ≡ (build_call (source (size rows columns) f.now g.now (shift down right) plane) table.old).area }
 {
-    let size = Size { rows, columns };
-    let shift = Shift { down, right };
-    match table::build(size, f, g, shift, plane, table) {
-        FillAnswer::Refused(number) => number as i32,
-        FillAnswer::Done => 0,
-    }
+    let source = Source {
+        size: Size { rows, columns },
+        f,
+        g,
+        shift: Shift { down, right },
+        plane,
+    };
+    done(table::build(&source, table))
 }
 
 // `table::read`: the window sum on a cell, by the corners of a table with any contents.
@@ -55,12 +58,5 @@ pub extern "C" fn ls_read(
         first,
         second,
     };
-    let cell = Cell { row, column };
-    match table::read(size, table, window, cell) {
-        SumAnswer::Refused(number) => number as i32,
-        SumAnswer::Sum(reading) => {
-            *sum = reading;
-            0
-        }
-    }
+    hand_back(table::read(size, table, window, Cell { row, column }), sum)
 }

@@ -5,8 +5,8 @@ ghost use Rattle.std.specs.Prelude.{◌≡◌};
 ghost use Rattle.statistics.specs.Voice.{voice_call};
 ghost use Rattle.replies.specs.Reply.{status, result_or, reply, sums, voice_result, of_voice};
 
-use replies::{EMPTY, GRAINY, STEADY};
-use statistics::{Sums, Voice, VoiceAnswer};
+use replies::{EMPTY, GRAINY, STEADY, refused};
+use statistics::{Sums, Voice};
 
 // `voices::voice_answer`: the kind of f's voice, 1 Steady or 2 Grainy, with its level and spread; the spread of a steady voice is 0.
 #[unsafe(no_mangle)]
@@ -28,8 +28,7 @@ pub extern "C" fn ls_voice(
 {
     let sums = Sums { n, s, t, a, b, p };
     match voices::voice_answer(sums) {
-        VoiceAnswer::Refused(number) => number as i32,
-        VoiceAnswer::Heard(voice) => match voice {
+        Ok(voice) => match voice {
             Voice::Empty => EMPTY,
             Voice::Steady(l) => {
                 *kind = STEADY;
@@ -44,5 +43,6 @@ pub extern "C" fn ls_voice(
                 0
             }
         },
+        Err(refusal) => refused(refusal),
     }
 }

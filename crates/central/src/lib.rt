@@ -4,12 +4,13 @@
 ghost use Rattle.std.specs.Prelude.{◌≡◌, ◌-ℤ◌, ◌*ℤ◌};
 ghost use Rattle.statistics.specs.SixSums.{unbounded};
 ghost use Rattle.statistics.specs.Central.{central_call};
-ghost use Rattle.statistics.specs.Answers.{central_outcome};
+ghost use Rattle.picture.specs.Answers.{optional_outcome};
 ghost use Rattle.statistics.specs.Limits.{Factors};
 
 use bounds::unbounded;
 use machine::magnitude;
-use statistics::{CentralAnswer, CentralMoments, Sums};
+use picture::Refusal;
+use statistics::{CentralMoments, Sums};
 use wide::multiply;
 use wide_order::at_most;
 
@@ -23,11 +24,11 @@ fn covariance(n: i64, s: i64, t: i64, p: i64) -> i64
 
 // N, Vf, Vg and C, where none of the conditions of 9 holds and N is not 0. The bounds are tested first, so that each of the three forms fits; C² and
 // Vf.Vg take two words each.
-pub fn central_moments(z: Sums) -> CentralAnswer
-    ensures { central_outcome result ≡ central_call z }
+pub fn central_moments(z: Sums) -> Result<Option<CentralMoments>, Refusal>
+    ensures { optional_outcome result ≡ central_call z }
 {
     if unbounded(z) {
-        return CentralAnswer::Refused(9);
+        return Err(Refusal::Sums);
     }
     let n = z.n;
     let s = z.s;
@@ -39,20 +40,20 @@ pub fn central_moments(z: Sums) -> CentralAnswer
     let g = covariance(n, t, t, b);
     let c = covariance(n, s, t, p);
     if f < 0 {
-        return CentralAnswer::Refused(9);
+        return Err(Refusal::Sums);
     }
     if g < 0 {
-        return CentralAnswer::Refused(9);
+        return Err(Refusal::Sums);
     }
     let vf = f as u64;
     let vg = g as u64;
     let size = magnitude(c);
     if !at_most(multiply(size, size), multiply(vf, vg)) {
-        return CentralAnswer::Refused(9);
+        return Err(Refusal::Sums);
     }
     let count = magnitude(n);
     if count == 0 {
-        return CentralAnswer::Empty;
+        return Ok(None);
     }
-    CentralAnswer::Given(CentralMoments { count, vf, vg, c })
+    Ok(Some(CentralMoments { count, vf, vg, c }))
 }

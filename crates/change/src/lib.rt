@@ -5,21 +5,20 @@
 ghost use Rattle.std.specs.Prelude.{◌≡◌, pos, ◌+ℤ◌, ◌-ℤ◌, length, get_or};
 ghost use Rattle.numbers.specs.Grid.{tabulate};
 ghost use Rattle.numbers.specs.Wrap.{wrap};
-ghost use Rattle.picture.specs.Picture.{source, plane_at};
+ghost use Rattle.picture.specs.Picture.{plane_at};
+ghost use Rattle.picture.specs.Given.{source_of};
 ghost use Rattle.lines.specs.Lines.{line_value, LinesAsked, ExchangeAsked, Numbers};
 
 use exchanges as values;
 use lines::{Line, line_of};
-use picture::{Shift, Size};
+use picture::Source;
 
 // Every number is of 64 bits. The loop reads each and keeps nothing, so the compiler leaves no code of it.
 fn known(sums: &[i64])
     ensures { Numbers sums.now }
 {
-    let mut k = 0;
-    while k < sums.len() {
+    for k in 0..sums.len() {
         let number = sums[k];
-        k += 1;
     }
 }
 
@@ -61,33 +60,24 @@ fn exchange_lines(plane: u32, f: &[i16], g: &[i16], a: Line, b: Line, sums: &mut
 }
 
 // Row `enter` of the plane is added to the sums, and row `leave` taken away; a row past the picture's last has no cell.
-pub fn exchange(
-    size: Size,
-    f: &[i16],
-    g: &[i16],
-    shift: Shift,
-    plane: u32,
-    enter: usize,
-    leave: usize,
-    sums: &mut [i64],
-)
-    requires { ExchangeAsked size f.now g.now sums.old }
-    ensures { sums.new ≡ tabulate size.columns (λ j. wrap (get_or sums.old j (pos 0) +ℤ (plane_at (source size f.now g.now shift plane) enter j -ℤ plane_at (source size f.now g.now shift plane) leave j))) }
+pub fn exchange(source: &Source<'_>, enter: usize, leave: usize, sums: &mut [i64])
+    requires { ExchangeAsked source.now.size source.now.f.now source.now.g.now sums.old }
+    ensures { sums.new ≡ tabulate source.now.size.columns (λ j. wrap (get_or sums.old j (pos 0) +ℤ (plane_at (source_of source.now) enter j -ℤ plane_at (source_of source.now) leave j))) }
 {
-    let rows = size.rows;
-    let columns = size.columns;
-    let right = shift.right;
-    let counting = overlaps::overlap_of(rows, shift.down);
+    let rows = source.size.rows;
+    let columns = source.size.columns;
+    let right = source.shift.right;
+    let counting = overlaps::overlap_of(rows, source.shift.down);
     let along = overlaps::overlap_of(columns, right);
     let first = along.first;
     let end = along.end;
     known(sums);
     exchange_lines(
-        plane,
-        f,
-        g,
-        line_of(size, counting, along, enter),
-        line_of(size, counting, along, leave),
+        source.plane,
+        source.f,
+        source.g,
+        line_of(source.size, counting, along, enter),
+        line_of(source.size, counting, along, leave),
         &mut sums[first..end],
     );
 }

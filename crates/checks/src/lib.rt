@@ -1,78 +1,50 @@
-// The first refusal of a call, from the conditions 1 to 6: 0 where there is none.
+// The first refusal of a call, from the conditions 1 to 6.
 #![tactic(auto)]
 
-ghost use Rattle.std.specs.Prelude.{◌≡◌};
-ghost use Rattle.picture.specs.Refusal.{refusal, number_of};
-ghost use Rattle.picture.specs.Picture.{inputs};
+ghost use Rattle.std.specs.Prelude.{◌≡◌, not, [], ◌∷◌};
+ghost use Rattle.picture.specs.Refusal.{◌when◌, refusal};
+ghost use Rattle.picture.specs.Answers.{number, refused_by};
+ghost use Rattle.picture.specs.Given.{inputs_of};
 ghost use Rattle.picture.specs.Conditions.{picture_checks, input_checks};
 ghost use Rattle.picture.specs.Direct.{direct_checks};
 
-use picture::{Cell, Shift, Size, Window};
+use legal_sizes::{cell_inside, is_full, size_legal};
+use legal_windows::{shift_legal, window_legal};
+use picture::{Cell, Inputs, Refusal, Shift, Size, Window};
+
+// One line of the table: the call is turned down unless the input is sound.
+pub fn require(sound: bool, line: Refusal) -> Result<(), Refusal>
+    ensures { refused_by result ≡ refusal ((number line when not sound) ∷ []) }
+{
+    if sound { Ok(()) } else { Err(line) }
+}
 
 // 1, and 2 for each of two pictures.
-pub fn pictures_refusal(size: Size, f: &[i16], g: &[i16]) -> u32
-    ensures { result ≡ number_of (refusal (picture_checks size f.now g.now)) }
+pub fn check_pictures(size: Size, f: &[i16], g: &[i16]) -> Result<(), Refusal>
+    ensures { refused_by result ≡ refusal (picture_checks size f.now g.now) }
 {
-    if !legal_sizes::size_legal(size) {
-        return 1;
-    }
-    if !legal_sizes::is_full(size, f.len()) {
-        return 2;
-    }
-    if !legal_sizes::is_full(size, g.len()) {
-        return 2;
-    }
-    0
+    require(size_legal(size), Refusal::Size)?;
+    require(is_full(size, f.len()), Refusal::Length)?;
+    require(is_full(size, g.len()), Refusal::Length)
 }
 
 // The number of the last plane.
 const LAST_PLANE: u32 = 5;
 
 // 1 to 5: the conditions that look at the inputs alone.
-pub fn inputs_refusal(
-    size: Size,
-    f: &[i16],
-    g: &[i16],
-    window: Window,
-    shift: Shift,
-    plane: u32,
-) -> u32
-    ensures { result ≡ number_of (refusal (input_checks (inputs size f.now g.now window shift plane))) }
+pub fn check_inputs(inputs: &Inputs<'_>) -> Result<(), Refusal>
+    ensures { refused_by result ≡ refusal (input_checks (inputs_of inputs.now)) }
 {
-    let pictures = pictures_refusal(size, f, g);
-    if pictures != 0 {
-        return pictures;
-    }
-    if !legal_windows::window_legal(window) {
-        return 3;
-    }
-    if !legal_windows::shift_legal(shift) {
-        return 4;
-    }
-    if plane > LAST_PLANE {
-        return 5;
-    }
-    0
+    check_pictures(inputs.source.size, inputs.source.f, inputs.source.g)?;
+    require(window_legal(inputs.window), Refusal::Window)?;
+    require(shift_legal(inputs.source.shift), Refusal::Shift)?;
+    require(inputs.source.plane <= LAST_PLANE, Refusal::Plane)
 }
 
 // 1 to 6: the checks of the direct sum.
-pub fn direct_refusal(
-    size: Size,
-    f: &[i16],
-    g: &[i16],
-    window: Window,
-    shift: Shift,
-    plane: u32,
-    cell: Cell,
-) -> u32
-    ensures { result ≡ number_of (refusal (direct_checks (inputs size f.now g.now window shift plane) cell.row cell.column)) }
+pub fn check_direct(inputs: &Inputs<'_>, cell: Cell) -> Result<(), Refusal>
+    ensures { refused_by result ≡ refusal (direct_checks (inputs_of inputs.now) cell.row cell.column) }
 {
-    let first = inputs_refusal(size, f, g, window, shift, plane);
-    if first != 0 {
-        return first;
-    }
-    if !legal_sizes::cell_inside(size, cell) {
-        return 6;
-    }
-    0
+    check_inputs(inputs)?;
+    require(cell_inside(inputs.source.size, cell), Refusal::Cell)
 }

@@ -8,7 +8,7 @@ ghost use Rattle.numbers.specs.Sum.{dist};
 pub fn low(i: usize, r: usize) -> usize
     ensures { result ≡ i - r }
 {
-    if i < r { 0 } else { i - r }
+    i.saturating_sub(r)
 }
 
 // The place past the last of n places that is at most r after i. For callers that know that i is one of them.
@@ -16,12 +16,12 @@ pub fn high(i: usize, r: usize, n: usize) -> usize
     requires { i < n }
     ensures { result ≡ min (suc (i + r)) n }
 {
-    if r < n - i { i + r + 1 } else { n }
+    (i + 1).saturating_add(r).min(n)
 }
 
 // How far apart two places are.
 pub fn distance(i: usize, m: usize) -> usize
     ensures { result ≡ dist i m }
 {
-    if i < m { m - i } else { i - m }
+    i.abs_diff(m)
 }

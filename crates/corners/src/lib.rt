@@ -78,14 +78,12 @@ fn row_by_row(size: Size, table: &[i64], window: Window, cell: Cell) -> i64
     let column = cell.column;
     let height = shape::height(window);
     let end = clip::high(row, height, rows);
-    let mut m = clip::low(row, height);
     let mut sum = 0i64;
-    while m < end {
+    for m in clip::low(row, height)..end {
         let distance = clip::distance(row, m);
         let reach = reaches::reach(window, distance);
         let part = rectangle(size, table, 0, reach, m, column);
         sum = wrapping::wrapping_add(sum, part);
-        m += 1;
     }
     sum
 }

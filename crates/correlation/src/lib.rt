@@ -10,7 +10,8 @@ ghost use Rattle.statistics.specs.Limits.{Correlated};
 
 use central::central_moments;
 use machine::magnitude;
-use statistics::{CentralAnswer, CoefficientAnswer, Sums};
+use picture::Refusal;
+use statistics::{Coefficient, Sums};
 use wide::{Product, Scaled, multiply, scale};
 use wide_order::scaled_at_most;
 
@@ -33,28 +34,22 @@ fn wide_root(y: Scaled, x: Product) -> u32
 }
 
 // "Empty if N = 0; Flat if Vf or Vg is 0; otherwise the sign of C times the largest whole c .. with c²·Vf·Vg ≤ 1,000,000·C²."
-pub fn coefficient(z: Sums) -> CoefficientAnswer
+pub fn coefficient(z: Sums) -> Result<Coefficient, Refusal>
     ensures { coefficient_outcome result ≡ coefficient_call z }
 {
-    match central_moments(z) {
-        CentralAnswer::Refused(number) => CoefficientAnswer::Refused(number),
-        CentralAnswer::Empty => CoefficientAnswer::Empty,
-        CentralAnswer::Given(m) => {
-            if m.vf == 0 {
-                return CoefficientAnswer::Flat;
-            }
-            if m.vg == 0 {
-                return CoefficientAnswer::Flat;
-            }
-            let size = magnitude(m.c);
-            let largest = wide_root(
-                scale(multiply(size, size), 1000000),
-                multiply(m.vf, m.vg),
-            ) as i64;
-            if m.c < 0 {
-                return CoefficientAnswer::Value(0 - largest);
-            }
-            CoefficientAnswer::Value(largest)
-        }
+    let Some(m) = central_moments(z)? else {
+        return Ok(Coefficient::Empty);
+    };
+    if m.vf == 0 {
+        return Ok(Coefficient::Flat);
     }
+    if m.vg == 0 {
+        return Ok(Coefficient::Flat);
+    }
+    let size = magnitude(m.c);
+    let largest = wide_root(scale(multiply(size, size), 1000000), multiply(m.vf, m.vg)) as i64;
+    if m.c < 0 {
+        return Ok(Coefficient::Value(0 - largest));
+    }
+    Ok(Coefficient::Value(largest))
 }

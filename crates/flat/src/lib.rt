@@ -6,37 +6,27 @@ ghost use Rattle.std.specs.Prelude.{◌≡◌, leb, pos, ◌+ℤ◌, get_or};
 ghost use Rattle.numbers.specs.Grid.{tabulate};
 ghost use Rattle.numbers.specs.Sum.{sum_to, pick};
 ghost use Rattle.numbers.specs.Wrap.{wrap};
-ghost use Rattle.picture.specs.Picture.{source, plane_at};
+ghost use Rattle.picture.specs.Picture.{plane_at};
+ghost use Rattle.picture.specs.Given.{source_of};
 ghost use Rattle.picture.specs.Size.{column_gap};
 ghost use Rattle.session.specs.Rows.{enter_leave};
 ghost use Rattle.flat.specs.Asked.{FlatAsked};
 
-use picture::{Shift, Size};
+use picture::Source;
 use steps::step;
 
 // From row i to i+1, the columns at most k away at half height h: what enters and leaves there comes into the work area. The room for a row serves on the way.
-pub fn flat(
-    size: Size,
-    f: &[i16],
-    g: &[i16],
-    shift: Shift,
-    plane: u32,
-    i: usize,
-    h: usize,
-    k: usize,
-    work: &mut [i64],
-    row: &mut [i64],
-)
-    requires { FlatAsked size f.now g.now i h work.old row.old }
-    ensures { work.new ≡ tabulate size.columns (λ j. wrap (get_or work.old j (pos 0) +ℤ sum_to size.columns (λ n. pick (leb (column_gap size j n) k) (enter_leave size (plane_at (source size f.now g.now shift plane)) i h n)))) }
+pub fn flat(source: &Source<'_>, i: usize, h: usize, k: usize, work: &mut [i64], row: &mut [i64])
+    requires { FlatAsked source.now.size source.now.f.now source.now.g.now i h work.old row.old }
+    ensures { work.new ≡ tabulate source.now.size.columns (λ j. wrap (get_or work.old j (pos 0) +ℤ sum_to source.now.size.columns (λ n. pick (leb (column_gap source.now.size j n) k) (enter_leave source.now.size (plane_at (source_of source.now)) i h n)))) }
 {
     if k == 0 {
-        step::add_gain(size, f, g, shift, plane, i, h, work);
+        step::add_gain(source, i, h, work);
         return;
     }
-    let columns = size.columns;
+    let columns = source.size.columns;
     let mut change = [0i64; 1024];
-    step::gain(size, f, g, shift, plane, i, h, &mut change[..columns]);
+    step::gain(source, i, h, &mut change[..columns]);
     across::across(&change[..columns], k, row);
     step::add(work, row);
 }

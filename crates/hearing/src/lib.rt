@@ -9,7 +9,7 @@ ghost use Rattle.statistics.specs.Answers.{voice_of};
 ghost use Rattle.hearing.specs.Hearing.{first_sums, steady_in, CellsAsked, FirstCell};
 
 use picture::Cell;
-use statistics::{Sums, Voice, VoiceAnswer};
+use statistics::{Sums, Voice};
 
 // The voice answer to the sums of a cell, which are never refused. Those of g have no part in it, and stand at 0.
 fn heard(n: i64, s: i64, a: i64) -> Voice
@@ -25,8 +25,8 @@ fn heard(n: i64, s: i64, a: i64) -> Voice
         p: 0,
     };
     match voices::voice_answer(sums) {
-        VoiceAnswer::Heard(voice) => voice,
-        VoiceAnswer::Refused(_) => Voice::Empty,
+        Ok(voice) => voice,
+        Err(_) => unreachable!(),
     }
 }
 

@@ -81,7 +81,7 @@ pub record RowDone (x : Source) (i m h w : ℕ) (before a b c rises falls work o
   pub work_is : work ≡ edged x i h w before
   pub output_is : out ≡ edged x i h w before
 
--- ---- for planes of levels: the rows that enter and leave in the middle are kept too
+-- ---- the rows that enter and leave in the middle are kept too
 pub record TakeAsked (x : Source) (i m h w : ℕ) (a c rises falls work out : List ℤ) : Type 0 where
   pub edges : EdgesAsked x i h w
   pub turn : m ≤ 254
@@ -91,8 +91,9 @@ pub record TakeAsked (x : Source) (i m h w : ℕ) (a c rises falls work out : Li
   pub room_work : length work ≡ x.size.columns
   pub room : length out ≡ x.size.columns
 
-pub record LeavingAsked (x : Source) (i m h w : ℕ) (a b c rises falls work out : List ℤ) : Type 0 where
-  pub plane : x.plane ≤ 2
+-- of a plane whose values the rows hold
+pub record LeavingAsked (holds : ℕ → Type 0) (x : Source) (i m h w : ℕ) (a b c rises falls work out : List ℤ) : Type 0 where
+  pub plane : holds x.plane
   pub row : RowAsked x i m h w a b c rises falls work out
   pub leaving : Holds c (padded (plane_at x) (128 + i - h))
 
@@ -108,10 +109,10 @@ pub record ManyAsked (x : Inputs) (i n : ℕ) (work out : List ℤ) : Type 0 whe
   pub room_work : length work ≡ x.source.size.columns
   pub room : length out ≡ n * x.source.size.columns
 
--- ---- many rows of planes of levels
+-- ---- many rows, of a plane whose values the rows hold
 -- the same with the slopes of row i, and the row that leaves in the middle
-pub record AfterAsked (x : Inputs) (i n : ℕ) (a b c rises falls work out : List ℤ) : Type 0 where
-  pub plane : x.source.plane ≤ 2
+pub record AfterAsked (holds : ℕ → Type 0) (x : Inputs) (i n : ℕ) (a b c rises falls work out : List ℤ) : Type 0 where
+  pub plane : holds x.source.plane
   pub many : ManyAsked x i n work out
   pub rows : Rows x.source.size.columns a b c
   pub slopes : Slopes (padded (plane_at x.source)) x.source.size.columns (width (shape_of x.window)) (height (shape_of x.window)) (128 + i) 0 rises falls
@@ -148,9 +149,9 @@ pub record TopDone (x : Inputs) (fresh : Bool) (before work out : List ℤ) (beg
   pub kept : T (not fresh) → work ≡ before
 
 -- n rows behind row i, and row 0 before them where they are fresh
-pub record FromAsked (x : Inputs) (fresh : Bool) (i n : ℕ) (work out : List ℤ) : Type 0 where
+pub record FromAsked (holds : ℕ → Type 0) (x : Inputs) (fresh : Bool) (i n : ℕ) (work out : List ℤ) : Type 0 where
   pub inputs : Checked x
-  pub plane : x.source.plane ≤ 2
+  pub plane : holds x.source.plane
   pub slanted : is_rectangle (shape_of x.window) ≡ false
   pub high : T fresh → 1 ≤ height (shape_of x.window)
   pub at_0 : T fresh → i ≡ 0

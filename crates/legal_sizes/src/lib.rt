@@ -1,5 +1,5 @@
 // The limits of a size as tests: its rows and columns, a cell of it, the length of its areas.
-#![tactic(auto)]
+#![tactic(auto, unfolding(picture::specs::Size::size_legal))]
 
 ghost use Rattle.std.specs.Prelude.{◌≡◌, ◌&&◌, T, ltb, eqb};
 ghost use Rattle.picture.specs.Size.{size_legal, cells};
@@ -10,32 +10,14 @@ use picture::{Cell, Size};
 pub fn size_legal(size: Size) -> bool
     ensures { result ≡ size_legal size }
 {
-    let rows = size.rows;
-    let columns = size.columns;
-    if rows < 1 {
-        return false;
-    }
-    if rows > 256 {
-        return false;
-    }
-    if columns < 1 {
-        return false;
-    }
-    columns <= 1024
+    (1..=256).contains(&size.rows) && (1..=1024).contains(&size.columns)
 }
 
 // The cell is inside the picture.
 pub fn cell_inside(size: Size, cell: Cell) -> bool
     ensures { result ≡ (ltb cell.row size.rows && ltb cell.column size.columns) }
 {
-    let rows = size.rows;
-    let columns = size.columns;
-    let row = cell.row;
-    let column = cell.column;
-    if rows <= row {
-        return false;
-    }
-    column < columns
+    cell.row < size.rows && cell.column < size.columns
 }
 
 // The length of an area is rows times columns. For callers that have checked the size.
@@ -43,7 +25,5 @@ pub fn is_full(size: Size, length: usize) -> bool
     requires { T (size_legal size) }
     ensures { result ≡ eqb length (cells size) }
 {
-    let rows = size.rows;
-    let columns = size.columns;
-    length == rows * columns
+    length == size.rows * size.columns
 }

@@ -13,10 +13,8 @@ pub fn next_levels(levels: &[i16], start: usize, table: &mut [i64])
     let columns = levels.len();
     let above = start - columns;
     let mut sum = 0i64;
-    let mut j = 0;
-    while j < columns {
+    for j in 0..columns {
         sum = wrapping::wrapping_add(sum, levels[j] as i64);
         table[start + j] = wrapping::wrapping_add(table[above + j], sum);
-        j += 1;
     }
 }

@@ -7,9 +7,7 @@ ghost use Rattle.picture.specs.Picture.{Levels};
 pub fn known(f: &[i16])
     ensures { Levels f.now }
 {
-    let mut k = 0;
-    while k < f.len() {
+    for k in 0..f.len() {
         let level = f[k];
-        k += 1;
     }
 }

@@ -8,7 +8,7 @@ ghost use Rattle.mean_rows.specs.Asked.{SmoothAsked, MeanRowsAsked};
 
 use blocks::next;
 use means::row_means;
-use picture::{Shift, Size, Window};
+use picture::{Inputs, Shift, Size, Source, Window};
 
 // The means of every row; counts and totals are room for a row each, n and s for 16 rows.
 fn every_row(
@@ -26,18 +26,27 @@ fn every_row(
 {
     let rows = size.rows;
     let columns = size.columns;
-    let still = Shift { down: 0, right: 0 };
-    let mut i = 0;
+    let source = Source {
+        size,
+        f,
+        g: f,
+        shift: Shift { down: 0, right: 0 },
+        plane: 0,
+    };
+    let ones = Inputs { source, window };
+    let levels = Inputs {
+        source: Source { plane: 1, ..source },
+        window,
+    };
     let mut start = 0;
-    while i < rows {
+    for i in 0..rows {
         let end = start + columns;
-        next(i, size, f, f, window, still, 0, counts, n);
-        next(i, size, f, f, window, still, 1, totals, s);
+        next(i, &ones, counts, n);
+        next(i, &levels, totals, s);
         let from = i % 16 * columns;
         let upto = from + columns;
         row_means(&n[from..upto], &s[from..upto], &mut out[start..end]);
         start = end;
-        i += 1;
     }
 }
 

@@ -34,12 +34,10 @@ pub fn row_means(n: &[i64], s: &[i64], out: &mut [i16])
 {
     let mut last: u64 = 1;
     let mut by = quotients::reciprocal(last);
-    let mut j = 0;
-    while j < out.len() {
+    for j in 0..out.len() {
         let count = n[j];
         by = reciprocal_of(count, last, by);
         last = count as u64;
         out[j] = mean(count, s[j], by);
-        j += 1;
     }
 }

@@ -2,7 +2,7 @@
 // For callers that have checked their inputs.
 #![tactic(auto)]
 
-ghost use Rattle.std.specs.Prelude.{◌≡◌, min, max};
+ghost use Rattle.std.specs.Prelude.{◌≡◌};
 ghost use Rattle.overlaps.specs.Overlaps.{Overlapping, ClipAsked, Clipped};
 
 // The places that count along one side of the picture under a shift: from `first` up to `end`; the place of g that belongs to
@@ -18,7 +18,7 @@ pub struct Overlap {
 pub fn overlap_of(n: usize, by: i32) -> Overlap
     ensures { Overlapping n by result }
 {
-    let far = machine::magnitude(by as i64) as usize;
+    let far = by.unsigned_abs() as usize;
     if n <= far {
         return Overlap {
             first: 0,
@@ -40,26 +40,14 @@ pub fn overlap_of(n: usize, by: i32) -> Overlap
     }
 }
 
-fn larger(a: usize, b: usize) -> usize
-    ensures { result ≡ max a b }
-{
-    if a < b { b } else { a }
-}
-
-fn smaller(a: usize, b: usize) -> usize
-    ensures { result ≡ min a b }
-{
-    if a < b { a } else { b }
-}
-
 // The places from lo up to hi among those that count.
 pub fn clipped(counting: Overlap, lo: usize, hi: usize) -> Overlap
     requires { ClipAsked counting lo hi }
     ensures { Clipped counting lo hi result }
 {
     let first = counting.first;
-    let start = larger(lo, first);
-    let end = smaller(hi, counting.end);
+    let start = lo.max(first);
+    let end = hi.min(counting.end);
     if end <= start {
         return Overlap {
             first: lo,

@@ -5,9 +5,9 @@ use Prim.Native.Nat.{ℕ, ◌+◌, ◌-◌, ◌≤◌, ◌<◌}
 use native.Mathlib.Omega.{arith}
 use native.Mathlib.Decide.{dec_lt}
 use mathlib.Core.Bool.{Bool, true, false}
-use mathlib.Core.List.{List}
+use mathlib.Core.List.{List, map, map-id}
 use lib.Dec.{leb, ltb, leb→le, ltb→lt, le→leb}
-use lib.ListN.{length}
+use lib.ListN.{length, take, drop}
 use lib.IntN.{ℤ, pos}
 use borrow.Rule.Slice.PartMut.{put_mid}
 use Rattle.numbers.specs.Sum.{pick}
@@ -15,16 +15,18 @@ use Rattle.numbers.specs.Grid.{tabulate}
 use Rattle.numbers.proofs.Tests.{and_left, and_right}
 use Rattle.numbers.proofs.Grids.{length-tabulate}
 use Rattle.numbers.proofs.Sums.{pick_yes, pick_no}
-use Rattle.numbers.proofs.Writes.{at, is-tabulate, tabulate-at, part-before, part-within, part-after, part_length}
+use Rattle.numbers.proofs.Writes.{at, is-tabulate, tabulate-at, part-before, part-within, part-after, part_length, slice-length}
 use Rattle.overlaps.specs.declared.Overlap.{Overlap}
 use Rattle.overlaps.specs.Overlaps.{Overlapping}
+use Rattle.picture.specs.declared.Size.{Size}
 use Rattle.picture.specs.Picture.{Source, plane_value, plane_at}
+use Rattle.picture.proofs.Refusals.{in-limits}
 use Rattle.lines.specs.declared.Line.{Line}
 use Rattle.lines.specs.Lines.{line_of, line_value, Lies}
 use Rattle.lines.proofs.LineValues.{line-value, column-outside}
 use Rattle.lines.proofs.Exchanges.{line_on, line-off, lent-f, lent-g, lent-value}
 use Rattle.slopes.specs.Slopes.{padded}
-use Rattle.slopes.specs.Leans.{Blank, Holds}
+use Rattle.slopes.specs.Leans.{Blank, Holds, LoadAsked}
 
 -- ---- row m of a plane, by its line
 module _ (x : Source) (o along : Overlap) (v : Overlapping x.size.rows x.shift.down o) (h : Overlapping x.size.columns x.shift.right along)
@@ -126,3 +128,21 @@ module _ (P : ℕ → ℕ → ℤ) (columns y : ℕ) (buf part : List ℤ) (blan
 
   pub load_row : 128 ≤ y → (n : ℕ) → part ≡ tabulate n (P (y - 128)) → Holds put (padded P y)
   load_row h n e = loaded (P (y - 128)) n e (λ k k<. sym (pick_yes (leb 128 y) (P (y - 128) k) (le→leb 128 y h)))
+
+-- ---- a row of numbers that stand for themselves
+pub holds-same : {l : List ℤ} {F : ℕ → ℤ} → Holds l F → Holds (map (λ (x : ℤ). x) l) F
+holds-same {l} h = rw (map-id l) h
+
+-- the row has room for the picture's columns
+module _ (z : Size) (f g buf : List ℤ) (asked : LoadAsked z f g (map (λ (x : ℤ). x) buf)) where
+  pub blank-same : Blank buf z.columns
+  blank-same = rw (map-id buf) at asked.blank
+
+  pub few-columns : z.columns ≤ 1024
+  few-columns = (in-limits z asked.size).few_columns
+
+  room-in-row : 256 + z.columns ≤ length buf
+  room-in-row = omega (arith, few-columns, blank-same.size)
+
+  pub lent-row : length (take (256 + z.columns - 256) (drop 256 buf)) ≡ 256 + z.columns - 256
+  lent-row = slice-length 256 (256 + z.columns) buf (omega arith) room-in-row

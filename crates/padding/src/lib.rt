@@ -2,5 +2,41 @@
 // For callers that have checked their inputs.
 #![tactic(auto)]
 
+ghost use Rattle.std.specs.Prelude.{◌≡◌, ℕ, ◌*◌, ◌^◌, ◌<◌, ◌≤◌, ℤ, pos, nat_abs, map};
+ghost use Rattle.std.specs.Mem.{type_size};
+ghost use Rattle.picture.specs.Picture.{Source, Levels, plane_at};
+ghost use Rattle.picture.specs.Given.{source_of};
+ghost use Rattle.slopes.specs.Slopes.{padded};
+ghost use Rattle.slopes.specs.Leans.{Holds, LoadAsked};
+
+use picture::Source;
+
 pub mod narrow; // narrow.rt: planes 0, 1 and 2, whose values are ones and levels
 pub mod wide; // wide.rt: planes 3, 4 and 5, whose values are products
+
+// The numbers of a row: the values of the planes that fit them.
+pub trait PlaneValue: Copy {
+    // the number that one stands for
+    ghost value: { Self → ℤ };
+
+    // the planes whose values fit
+    ghost holds: { ℕ → Type 0 };
+
+    // how large those values are
+    ghost value_max: { ℕ };
+
+    // 0
+    fn zero() -> Self
+        ensures { value result ≡ pos 0 };
+
+    // Row y of the padded plane stands in buf: row y - 128 of the plane, and zeros where there is none.
+    fn load(source: &Source<'_>, y: usize, buf: &mut [Self; 1536])
+        requires { holds source.now.plane × LoadAsked source.now.size source.now.f.now source.now.g.now (map value buf.old) }
+        ensures { Holds (map value buf.new) (padded (plane_at (source_of source.now)) y) };
+
+    // the values of such a plane are that large
+    ghost small: { (x : Source) → holds x.plane → Levels x.f → Levels x.g → (m n : ℕ) → nat_abs (plane_at x m n) ≤ value_max };
+
+    // a row fits in memory
+    ghost row_fits: { 1536 * type_size Self.row < 2 ^ 63 };
+}

@@ -1,21 +1,22 @@
 // Planes 0, 1 and 2, whose values are ones and levels: rows of 16 bits.
 // For callers that have checked their inputs.
-ghost use Rattle.std.specs.Prelude.{◌≡◌, ◌≤◌, pos, length, get_or};
+ghost use Rattle.std.specs.Prelude.{◌≡◌, ◌≤◌, ◌^◌, pos, length, get_or};
 ghost use Rattle.numbers.specs.Grid.{tabulate};
-ghost use Rattle.picture.specs.Picture.{source, plane_at, plane_value};
-ghost use Rattle.slopes.specs.Slopes.{padded};
-ghost use Rattle.slopes.specs.Leans.{Holds, LoadAsked, RowAsked};
+ghost use Rattle.picture.specs.Picture.{plane_at, plane_value};
+ghost use Rattle.picture.specs.Given.{source_of};
+ghost use Rattle.std.proofs.Common.{arith};
+ghost use Rattle.picture.proofs.Planes.{plane-level};
+ghost use Rattle.slopes.specs.Leans.{RowAsked};
 
-use picture::{Shift, Size};
+use crate::PlaneValue;
+use picture::Source;
 
 // Every number of out is the value.
 fn fill(out: &mut [i16], value: i16)
     ensures { out.new ≡ tabulate (length out.old) (λ k. value) }
 {
-    let mut k = 0;
-    while k < out.len() {
+    for k in 0..out.len() {
         out[k] = value;
-        k += 1;
     }
 }
 
@@ -24,10 +25,8 @@ fn copy(levels: &[i16], out: &mut [i16])
     requires { length levels.now ≡ length out.old }
     ensures { out.new ≡ tabulate (length out.old) (λ k. get_or levels.now k (pos 0)) }
 {
-    let mut k = 0;
-    while k < out.len() {
+    for k in 0..out.len() {
         out[k] = levels[k];
-        k += 1;
     }
 }
 
@@ -48,16 +47,16 @@ fn values(plane: u32, a: &[i16], b: &[i16], out: &mut [i16])
 }
 
 // A row of the plane, zeros where cells do not count.
-fn row(size: Size, f: &[i16], g: &[i16], shift: Shift, plane: u32, row: usize, out: &mut [i16])
-    requires { (plane ≤ 2) × RowAsked size f.now g.now out.old }
-    ensures { out.new ≡ tabulate size.columns (plane_at (source size f.now g.now shift plane) row) }
+fn row(source: &Source<'_>, row: usize, out: &mut [i16])
+    requires { (source.now.plane ≤ 2) × RowAsked source.now.size source.now.f.now source.now.g.now out.old }
+    ensures { out.new ≡ tabulate source.now.size.columns (plane_at (source_of source.now) row) }
 {
-    let rows = size.rows;
-    let columns = size.columns;
-    let right = shift.right;
-    let counting = overlaps::overlap_of(rows, shift.down);
+    let rows = source.size.rows;
+    let columns = source.size.columns;
+    let right = source.shift.right;
+    let counting = overlaps::overlap_of(rows, source.shift.down);
     let along = overlaps::overlap_of(columns, right);
-    let line = lines::line_of(size, counting, along, row);
+    let line = lines::line_of(source.size, counting, along, row);
     fill(out, 0);
     if line.counts {
         let first = along.first;
@@ -67,24 +66,36 @@ fn row(size: Size, f: &[i16], g: &[i16], shift: Shift, plane: u32, row: usize, o
         let upto_f = from_f + (end - first);
         let upto_g = from_g + (end - first);
         values(
-            plane,
-            &f[from_f..upto_f],
-            &g[from_g..upto_g],
+            source.plane,
+            &source.f[from_f..upto_f],
+            &source.g[from_g..upto_g],
             &mut out[first..end],
         );
     }
 }
 
-// Row y of the padded plane stands in buf: row y - 128 of the plane, and zeros where there is none.
-pub fn load(size: Size, f: &[i16], g: &[i16], shift: Shift, plane: u32, y: usize, buf: &mut [i16])
-    requires { (plane ≤ 2) × LoadAsked size f.now g.now buf.old }
-    ensures { Holds buf.new (padded (plane_at (source size f.now g.now shift plane)) y) }
-{
-    let left = 256;
-    let right = left + size.columns;
-    if y < 128 {
-        fill(&mut buf[left..right], 0);
-        return;
+impl PlaneValue for i16 {
+    ghost value = { λ x. x };
+
+    ghost value_max = { 2 ^ 15 };
+
+    ghost holds = { λ p. p ≤ 2 };
+
+    ghost small = { λ x p f g. plane-level x f g p };
+
+    ghost row_fits = { omega arith };
+
+    fn zero() -> i16 {
+        0
     }
-    row(size, f, g, shift, plane, y - 128, &mut buf[left..right]);
+
+    fn load(source: &Source<'_>, y: usize, buf: &mut [i16; 1536]) {
+        let left = 256;
+        let right = left + source.size.columns;
+        if y < 128 {
+            fill(&mut buf[left..right], 0);
+            return;
+        }
+        row(source, y - 128, &mut buf[left..right]);
+    }
 }

@@ -8,22 +8,15 @@ ghost use Rattle.panel_language.specs.Panel.{panel};
 use std::io;
 use std::io::{Read, Write};
 
-// Room for the longest input that is taken, and for one byte more, which tells a longer input. The contract gives the length alone.
-fn input() -> [u8; 65537]
-    ensures { 65537 ≡ length result }
+// An area of so many bytes. The contract gives the length alone, which is all that its callers need.
+fn area<const N: usize>() -> [u8; N]
+    ensures { N ≡ length result }
 {
-    [0; 65537]
-}
-
-// Room for the longest output.
-fn output() -> [u8; 28672]
-    ensures { 28672 ≡ length result }
-{
-    [0; 28672]
+    [0; N]
 }
 
 // Reads until the input ends or `text` is full, and gives how many bytes it put at the front of `text`. A short read, as of a pipe, is gone
-// on with.
+// on with. std has no such method: `read_exact` fails where the input ends, and `read_to_end` needs the heap.
 fn read_full<R: Read>(from: &mut R, text: &mut [u8]) -> io::Result<usize>
     ensures room { IfOk result (λ n. n ≤ length text.new) }
     ensures bytes { IfOk result (λ n. Consumes (R.remaining from.old) (R.remaining from.new) (take n text.new)) }
@@ -44,8 +37,10 @@ fn read_full<R: Read>(from: &mut R, text: &mut [u8]) -> io::Result<usize>
 fn run<R: Read, W: Write>(from: &mut R, to: &mut W) -> io::Result<()>
     ensures { OnOk result (IfSome (R.remaining from.old) (λ text. Appends (W.contents to.old) (W.contents to.new) (panel text))) }
 {
-    let mut text = input();
-    let mut out = output();
+    // Room for the longest input that is taken, and for one byte more, which tells a longer input.
+    let mut text = area::<65537>();
+    // Room for the longest output.
+    let mut out = area::<28672>();
     let n = read_full(from, &mut text)?;
     let count = panel_text::render(&text[..n], &mut out);
     to.write_all(&out[..count])

@@ -5,7 +5,7 @@ use Prim.Native.Nat.{ℕ, zero, suc, ◌^◌, ◌<◌}
 use native.Mathlib.Omega.{arith}
 use mathlib.Core.Bool.{Bool, true, false}
 use mathlib.Core.List.{List, [], ◌∷◌, map}
-use mathlib.Core.Option.{Option, none, some}
+use Rattle.std.specs.Prelude.{Option, None, Some, option_map}
 use lib.Dec.{T, ltb, leb→le}
 use lib.ListN.{length, get_or}
 use lib.IntN.{ℤ, pos, negsuc}
@@ -42,35 +42,35 @@ one_more k n l t g = record { full = ap suc g.full; level = at }
     at zero = is-level n t
     at (suc i) = g.level i
 
-never : {A : Type 0} {l : A} → none ≡ some l → ⊥
+never : {A : Type 0} {l : A} → None ≡ Some l → ⊥
 never e = let z : ◌≡◌ {A = ℕ} 0 1 = cc in omega arith
 
 refuses : {A : Type 0} {n : ℕ} {a : A} → refused n ≡ answered a → ⊥
 refuses e = let z : ◌≡◌ {A = ℕ} 0 1 = cc in omega arith
 
-levels-good : (k : ℕ) (ns : List (Option ℤ)) (l : List ℤ) → levels_of k ns ≡ some l → Good k l
+levels-good : (k : ℕ) (ns : List (Option ℤ)) (l : List ℤ) → levels_of k ns ≡ Some l → Good k l
 unfolding levels_of
 levels-good zero [] l e =
     let q : [] ≡ l = cc in
     subst (Good 0) q (record { full = refl; level = λ i. omega arith })
 levels-good zero (n ∷ ns) l e = absurd (never e)
 levels-good (suc k) [] l e = absurd (never e)
-levels-good (suc k) (none ∷ ns) l e = absurd (never e)
-levels-good (suc k) (some n ∷ ns) l e = go (is_level n) refl (levels_of k ns) (levels-good k ns) e
+levels-good (suc k) (None ∷ ns) l e = absurd (never e)
+levels-good (suc k) (Some n ∷ ns) l e = go (is_level n) refl (levels_of k ns) (levels-good k ns) e
   where
-    go : (b : Bool) → is_level n ≡ b → (r : Option (List ℤ)) → ((l : List ℤ) → r ≡ some l → Good k l) →
-        elim b [ true ↦ elim r [ none ↦ none | some l ↦ some (n ∷ l) ] | false ↦ none ] ≡ some l → Good (suc k) l
-    go true eb none h e = absurd (never e)
-    go true eb (some t) h e =
+    go : (b : Bool) → is_level n ≡ b → (r : Option (List ℤ)) → ((l : List ℤ) → r ≡ Some l → Good k l) →
+        elim b [ true ↦ option_map (λ l. n ∷ l) r | false ↦ None ] ≡ Some l → Good (suc k) l
+    go true eb None h e = absurd (never e)
+    go true eb (Some t) h e =
         let q : n ∷ t ≡ l = cc in
         subst (Good (suc k)) q (one_more k n t (rw eb tt) (h t refl))
     go false eb r h e = absurd (never e)
 
 module _ (z : Size) (ok : T (panel_size z)) where
-  framed-legal : (w : Window) (o : Option (List ℤ)) → ((l : List ℤ) → o ≡ some l → Good (cells z) l) → (d : Drawing) → framed z w o ≡ answered d → Legal d
+  framed-legal : (w : Window) (o : Option (List ℤ)) → ((l : List ℤ) → o ≡ Some l → Good (cells z) l) → (d : Drawing) → framed z w o ≡ answered d → Legal d
   unfolding framed
-  framed-legal w none h d e = absurd (refuses e)
-  framed-legal w (some l) h d e = go (window_legal w) refl e
+  framed-legal w None h d e = absurd (refuses e)
+  framed-legal w (Some l) h d e = go (window_legal w) refl e
     where
       go : (b : Bool) → window_legal w ≡ b → elim b [ true ↦ answered (record { size = z; window = w; levels = l }) | false ↦ refused 3 ] ≡ answered d → Legal d
       go true eb e =
@@ -82,20 +82,20 @@ module _ (z : Size) (ok : T (panel_size z)) where
   filled-legal : (ns : List (Option ℤ)) (d : Drawing) → filled z ns ≡ answered d → Legal d
   unfolding filled
   filled-legal [] d e = absurd (refuses e)
-  filled-legal (none ∷ ns) d e = absurd (refuses e)
-  filled-legal (some s ∷ []) d e = absurd (refuses e)
-  filled-legal (some s ∷ none ∷ ns) d e = absurd (refuses e)
-  filled-legal (some s ∷ some a ∷ []) d e = absurd (refuses e)
-  filled-legal (some s ∷ some a ∷ none ∷ ns) d e = absurd (refuses e)
-  filled-legal (some s ∷ some a ∷ some b ∷ ns) d e = framed-legal (window (count_of s) a b) (levels_of (cells z) ns) (levels-good (cells z) ns) d e
+  filled-legal (None ∷ ns) d e = absurd (refuses e)
+  filled-legal (Some s ∷ []) d e = absurd (refuses e)
+  filled-legal (Some s ∷ None ∷ ns) d e = absurd (refuses e)
+  filled-legal (Some s ∷ Some a ∷ []) d e = absurd (refuses e)
+  filled-legal (Some s ∷ Some a ∷ None ∷ ns) d e = absurd (refuses e)
+  filled-legal (Some s ∷ Some a ∷ Some b ∷ ns) d e = framed-legal (window (count_of s) a b) (levels_of (cells z) ns) (levels-good (cells z) ns) d e
 
 sized-legal : (ns : List (Option ℤ)) (d : Drawing) → sized ns ≡ answered d → Legal d
 unfolding sized
 sized-legal [] d e = absurd (refuses e)
-sized-legal (none ∷ ns) d e = absurd (refuses e)
-sized-legal (some r ∷ []) d e = absurd (refuses e)
-sized-legal (some r ∷ none ∷ ns) d e = absurd (refuses e)
-sized-legal (some r ∷ some c ∷ ns) d e = go (panel_size (size (count_of r) (count_of c))) refl e
+sized-legal (None ∷ ns) d e = absurd (refuses e)
+sized-legal (Some r ∷ []) d e = absurd (refuses e)
+sized-legal (Some r ∷ None ∷ ns) d e = absurd (refuses e)
+sized-legal (Some r ∷ Some c ∷ ns) d e = go (panel_size (size (count_of r) (count_of c))) refl e
   where
     go : (b : Bool) → panel_size (size (count_of r) (count_of c)) ≡ b → elim b [ true ↦ filled (size (count_of r) (count_of c)) ns | false ↦ refused 1 ] ≡ answered d → Legal d
     go true eb e = filled-legal (size (count_of r) (count_of c)) (rw eb tt) ns d e

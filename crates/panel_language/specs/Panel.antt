@@ -1,7 +1,6 @@
 -- "The program panel": from the bytes of its input to the bytes of its output.
 -- Assumes nothing.
-use Rattle.std.specs.Prelude.{ℕ, zero, suc, ◌+◌, ◌*◌, Bool, true, false, ◌&&◌, List, [], ◌∷◌, ◌++◌, map, leb, ltb, length, get_or, ℤ, pos, negsuc}
-use Rattle.std.proofs.Math.Option.{Option, none, some}
+use Rattle.std.specs.Prelude.{ℕ, zero, suc, ◌+◌, ◌*◌, Bool, true, false, ◌&&◌, List, [], ◌∷◌, ◌++◌, map, leb, ltb, length, get_or, Option, None, Some, option_map, ℤ, pos, negsuc}
 use Rattle.picture.specs.Refusal.{Outcome, refused, answered}
 use Rattle.picture.specs.declared.Window.{Window}
 use Rattle.picture.specs.Window.{window, window_legal, between}
@@ -31,34 +30,34 @@ is_level n = between (negsuc 32767) (pos 32767) n
 
 -- all levels: exactly so many numbers, none malformed, none beyond 16 bits
 unfoldable pub levels_of : ℕ → List (Option ℤ) → Option (List ℤ)
-levels_of zero [] = some []
-levels_of zero (n ∷ ns) = none
-levels_of (suc k) [] = none
-levels_of (suc k) (none ∷ ns) = none
-levels_of (suc k) (some n ∷ ns) = elim (is_level n) [ true ↦ elim (levels_of k ns) [ none ↦ none | some l ↦ some (n ∷ l) ] | false ↦ none ]
+levels_of zero [] = Some []
+levels_of zero (n ∷ ns) = None
+levels_of (suc k) [] = None
+levels_of (suc k) (None ∷ ns) = None
+levels_of (suc k) (Some n ∷ ns) = elim (is_level n) [ true ↦ option_map (λ l. n ∷ l) (levels_of k ns) | false ↦ None ]
 
 -- the last check: "then 3"
 unfoldable pub framed : Size → Window → Option (List ℤ) → Outcome Drawing
-framed z w none = refused 10
-framed z w (some l) = elim (window_legal w) [ true ↦ answered (record { size = z; window = w; levels = l }) | false ↦ refused 3 ]
+framed z w None = refused 10
+framed z w (Some l) = elim (window_legal w) [ true ↦ answered (record { size = z; window = w; levels = l }) | false ↦ refused 3 ]
 
 -- "any other malformed, missing or extra number or a level beyond 16 bits, 10"
 unfoldable pub filled : Size → List (Option ℤ) → Outcome Drawing
 filled z [] = refused 10
-filled z (none ∷ ns) = refused 10
-filled z (some s ∷ []) = refused 10
-filled z (some s ∷ none ∷ ns) = refused 10
-filled z (some s ∷ some a ∷ []) = refused 10
-filled z (some s ∷ some a ∷ none ∷ ns) = refused 10
-filled z (some s ∷ some a ∷ some b ∷ ns) = framed z (window (count_of s) a b) (levels_of (cells z) ns)
+filled z (None ∷ ns) = refused 10
+filled z (Some s ∷ []) = refused 10
+filled z (Some s ∷ None ∷ ns) = refused 10
+filled z (Some s ∷ Some a ∷ []) = refused 10
+filled z (Some s ∷ Some a ∷ None ∷ ns) = refused 10
+filled z (Some s ∷ Some a ∷ Some b ∷ ns) = framed z (window (count_of s) a b) (levels_of (cells z) ns)
 
 -- "rows or columns malformed or missing, 10; either beyond limits or more than 4,096 cells, 1"
 unfoldable pub sized : List (Option ℤ) → Outcome Drawing
 sized [] = refused 10
-sized (none ∷ ns) = refused 10
-sized (some r ∷ []) = refused 10
-sized (some r ∷ none ∷ ns) = refused 10
-sized (some r ∷ some c ∷ ns) = elim (panel_size (size (count_of r) (count_of c))) [ true ↦ filled (size (count_of r) (count_of c)) ns | false ↦ refused 1 ]
+sized (None ∷ ns) = refused 10
+sized (Some r ∷ []) = refused 10
+sized (Some r ∷ None ∷ ns) = refused 10
+sized (Some r ∷ Some c ∷ ns) = elim (panel_size (size (count_of r) (count_of c))) [ true ↦ filled (size (count_of r) (count_of c)) ns | false ↦ refused 1 ]
 
 -- "The order is: longer input, 10; .."
 unfoldable pub parsed : List ℕ → Outcome Drawing

@@ -1,136 +1,126 @@
 -- The levels, one number after the other: what is missing, malformed or beyond 16 bits, and what follows them.
 -- Assumes nothing.
-use mathlib.Core.Path.{◌≡◌, refl, sym, ◌∙◌, ap}
-use Prim.Native.Nat.{ℕ, suc, ◌+◌, ◌-◌, ◌≤◌, ◌<◌}
-use native.Mathlib.Numerals.{add-one}
-use native.Mathlib.Omega.{arith}
-use mathlib.Core.Bool.{Bool, true, false, not}
-use mathlib.Core.List.{List, [], ◌∷◌, ◌++◌, append-nil}
-use mathlib.Core.Logic.{◌⊎◌, inl, inr}
-use mathlib.Core.Option.{Option, none, some}
-use lib.Dec.{T}
-use lib.ListN.{length, take, set, length-set}
+use Rattle.std.proofs.Common.{◌≡◌, refl, sym, ◌∙◌, ap, ℕ, suc, ◌+◌, ◌-◌, ◌≤◌, ◌<◌, Bool, true, false, leb, ◌&&◌, List, [], ◌∷◌, ◌++◌, append-nil, length, take, set, length-set, Option, None, Some, option_map, ℤ, pos, negsuc, FitsSigned, w16, Result, Ok, Err, not, is_some, add-one, arith}
+use borrow.Author.Tests.{le-leb, leb-true}
+use Rattle.std.specs.Bool.{then_some}
+use Rattle.std.specs.Result.{OkIff, result_ok}
+use Rattle.std.specs.Iterator.{YieldsFirst}
+use Rattle.std.proofs.lemmas.Bool.{false≢true, false_from_ne_true}
+use Rattle.panel_levels.specs.Levels.{levels_told}
 use lib.Seq.{take-suc-set, take_all, append_snoc}
-use lib.IntN.{ℤ}
-use denote.Enum.Declared.{tag_of}
-use Rattle.panel_scan.specs.declared.Token.{Token}
-use Rattle.panel_scan.specs.declared.Token.TheVariants.{End, Malformed, Number}
-use Rattle.panel_scan.specs.contracts.Token.{the_type}
-use Rattle.panel_scan.specs.Scan.{numbers_from, told}
 use Rattle.panel_language.specs.Panel.{is_level, levels_of}
 
--- ---- no number stands next, or nothing does
-abbrev pub no_number : List (Option ℤ) → Bool
-no_number [] = true
-no_number (none ∷ ns) = true
-no_number (some n ∷ ns) = false
+-- ---- a level is what fits 16 bits
+fits-level : (n : ℤ) → FitsSigned w16 n → is_level n ≡ true
+fits-level (pos n) f = le-leb n 32767 (omega (arith, f.sfits))
+fits-level (negsuc n) f = rw (le-leb n 32767 (omega (arith, f.sfits)))
 
-abbrev nothing : List (Option ℤ) → Bool
-nothing [] = true
-nothing (n ∷ ns) = false
+first_of : (b : Bool) → b && true ≡ true → b ≡ true
+first_of true e = refl
+first_of false e = e
 
--- a token that is no number, and one that is not the end
-abbrev pub NoNumber : Token → Type 0
-NoNumber t = (tag_of the_type t ≡ 0) ⊎ (tag_of the_type t ≡ 1)
+level-fits : (n : ℤ) → is_level n ≡ true → FitsSigned w16 n
+level-fits (pos n) e = record { sfits = omega (arith, leb-true n 32767 e) }
+level-fits (negsuc n) e = record { sfits = omega (arith, leb-true n 32767 (first_of (leb n 32767) e)) }
 
-abbrev pub NotEnd : Token → Type 0
-NotEnd t = (tag_of the_type t ≡ 1) ⊎ (tag_of the_type t ≡ 2)
+module _ {E : Type 0} (n : ℤ) where
+  pub beyond-16-bits : (r : Result ℤ E) → OkIff r (FitsSigned w16 n) n → None ≡ result_ok r → is_level n ≡ false
+  beyond-16-bits (Ok z) f e = absurd (cc)
+  beyond-16-bits (Err x) f e = false_from_ne_true (is_level n) (λ t. f (level-fits n t))
 
-pub no_number_lem : (text : List ℕ) (t : Token) → NoNumber t → T (no_number (told text t))
-no_number_lem text End e = tt
-no_number_lem text (Malformed a) e = tt
-no_number_lem text (Number n a) (inl e) = absurd (omega (arith, e))
-no_number_lem text (Number n a) (inr e) = absurd (omega (arith, e))
+  pub within-16-bits : (r : Result ℤ E) (z : ℤ) → OkIff r (FitsSigned w16 n) n → Some z ≡ result_ok r → (is_level n ≡ true) × ((z ≡ n) × FitsSigned w16 z)
+  within-16-bits (Ok y) z f e = let i : z ≡ n = cc in (fits-level n f.0, (i, rw i f.0))
+  within-16-bits (Err x) z f e = absurd (cc)
 
-not-nothing : (text : List ℕ) (t : Token) → NotEnd t → T (not (nothing (told text t)))
-not-nothing text End (inl e) = absurd (omega (arith, e))
-not-nothing text End (inr e) = absurd (omega (arith, e))
-not-nothing text (Malformed a) e = tt
-not-nothing text (Number n a) e = tt
-
--- ---- the levels
 -- levels that were read, before those that are read next
 abbrev onto : List ℤ → Option (List ℤ) → Option (List ℤ)
-onto l none = none
-onto l (some m) = some (l ++ m)
+onto l o = option_map (λ m. l ++ m) o
 
 onto-nil : (o : Option (List ℤ)) → o ≡ onto [] o
-onto-nil none = refl
-onto-nil (some l) = refl
+onto-nil None = refl
+onto-nil (Some l) = refl
 
-missing-level : (k : ℕ) (ns : List (Option ℤ)) → T (no_number ns) → levels_of (suc k) ns ≡ none
+onto-more : (l : List ℤ) (n : ℤ) (o : Option (List ℤ)) → onto l (option_map (λ m. n ∷ m) o) ≡ onto (l ++ (n ∷ [])) o
+onto-more l n None = refl
+onto-more l n (Some m) = ap Some (sym (append_snoc l n m))
+
+-- ---- the equations of levels_of
+none-missing : (k : ℕ) → levels_of (suc k) [] ≡ None
 unfolding levels_of
-missing-level k [] t = refl
-missing-level k (none ∷ ns) t = refl
-missing-level k (some n ∷ ns) t = absurd t
+none-missing k = refl
 
-by_level : (k : ℕ) (n : ℤ) (ns : List (Option ℤ)) (b : Bool) → is_level n ≡ b → levels_of (suc k) (some n ∷ ns) ≡ elim b [ true ↦ elim (levels_of k ns) [ none ↦ none | some l ↦ some (n ∷ l) ] | false ↦ none ]
+none-malformed : (k : ℕ) (ns : List (Option ℤ)) → levels_of (suc k) (None ∷ ns) ≡ None
 unfolding levels_of
-by_level k n ns b e = ap (λ (b : Bool). elim b [ true ↦ elim (levels_of k ns) [ none ↦ none | some l ↦ some (n ∷ l) ] | false ↦ none ]) e
+none-malformed k ns = refl
 
-onto-more : (l : List ℤ) (n : ℤ) (o : Option (List ℤ)) → onto l (elim o [ none ↦ none | some m ↦ some (n ∷ m) ]) ≡ onto (l ++ (n ∷ [])) o
-onto-more l n none = refl
-onto-more l n (some m) = ap some (sym (append_snoc l n m))
-
-extra-number : (ns : List (Option ℤ)) → T (not (nothing ns)) → levels_of 0 ns ≡ none
+by_level : (k : ℕ) (n : ℤ) (ns : List (Option ℤ)) (b : Bool) → is_level n ≡ b → levels_of (suc k) (Some n ∷ ns) ≡ elim b [ true ↦ option_map (λ l. n ∷ l) (levels_of k ns) | false ↦ None ]
 unfolding levels_of
-extra-number [] t = absurd t
-extra-number (n ∷ ns) t = refl
+by_level k n ns b e = ap (λ (b : Bool). elim b [ true ↦ option_map (λ l. n ∷ l) (levels_of k ns) | false ↦ None ]) e
 
-all_read : levels_of 0 [] ≡ some []
+none-extra : (n : Option ℤ) (ns : List (Option ℤ)) → levels_of 0 (n ∷ ns) ≡ None
+unfolding levels_of
+none-extra n ns = refl
+
+all_read : levels_of 0 [] ≡ Some []
 unfolding levels_of
 all_read = refl
 
--- the first k levels were read, up to `place`
-pub record LevelsUpto (text : List ℕ) (at : ℕ) (old now : List ℤ) (place k : ℕ) : Type 0 where
+-- the first k levels were read, and these numbers are left
+pub record LevelsUpto (all : List (Option ℤ)) (old now : List ℤ) (left : List (Option ℤ)) (k : ℕ) : Type 0 where
   pub size : length now ≡ length old
   pub inside : k ≤ length old
-  pub same : levels_of (length old) (numbers_from text at) ≡ onto (take k now) (levels_of (length old - k) (numbers_from text place))
+  pub same : levels_of (length old) all ≡ onto (take k now) (levels_of (length old - k) left)
 
-pub levels-first : (text : List ℕ) (at : ℕ) (old : List ℤ) → LevelsUpto text at old old at 0
-levels-first text at old =
+pub levels-first : (all : List (Option ℤ)) (old : List ℤ) → LevelsUpto all old old all 0
+levels-first all old =
     let e : length old - 0 ≡ length old = omega arith in
     record { size = refl; inside = omega arith; same = onto-nil _ ∙ rw e }
 
-module _ (text : List ℕ) (at : ℕ) (old now : List ℤ) (place k : ℕ) (u : LevelsUpto text at old now place k) where
+module _ (all : List (Option ℤ)) (old now : List ℤ) (left : List (Option ℤ)) (k : ℕ) (u : LevelsUpto all old now left k) where
   module _ (h : k < length old) where
-    left : length old - k ≡ suc (length old - (k + 1))
-    left = omega arith
+    one_more : levels_of (length old) all ≡ onto (take k now) (levels_of (suc (length old - (k + 1))) left)
+    one_more =
+        let e : length old - k ≡ suc (length old - (k + 1)) = omega arith in
+        u.same ∙ ap (λ (m : ℕ). onto (take k now) (levels_of m left)) e
 
-    one_more : levels_of (length old) (numbers_from text at) ≡ onto (take k now) (levels_of (suc (length old - (k + 1))) (numbers_from text place))
-    one_more = u.same ∙ ap (λ (m : ℕ). onto (take k now) (levels_of m (numbers_from text place))) left
+    pub level-missing : left ≡ [] → levels_of (length old) all ≡ None
+    level-missing e = one_more ∙ ap (onto (take k now)) (ap (levels_of _) e ∙ none-missing _)
 
-    pub level-missing : (t : Token) → numbers_from text place ≡ told text t → NoNumber t → levels_of (length old) (numbers_from text at) ≡ none
-    level-missing t e o = one_more ∙ ap (onto (take k now)) (ap (levels_of _) e ∙ missing-level _ (told text t) (no_number_lem text t o))
+    module _ (rest : List (Option ℤ)) where
+      pub level-malformed : left ≡ None ∷ rest → levels_of (length old) all ≡ None
+      level-malformed e = one_more ∙ ap (onto (take k now)) (ap (levels_of _) e ∙ none-malformed _ rest)
 
-    module _ (t : Token) (told-next : numbers_from text place ≡ told text t) (n : ℤ) (after : ℕ) (is : t ≡ Number n after) where
-      e : numbers_from text place ≡ some n ∷ numbers_from text after
-      e = told-next ∙ ap (told text) is
+      module _ (n : ℤ) (e : left ≡ Some n ∷ rest) where
+        pub level-beyond : is_level n ≡ false → levels_of (length old) all ≡ None
+        level-beyond b = one_more ∙ ap (onto (take k now)) (ap (levels_of _) e ∙ by_level _ n rest false b)
 
-      pub level-beyond : is_level n ≡ false → levels_of (length old) (numbers_from text at) ≡ none
-      level-beyond b = one_more ∙ ap (onto (take k now)) (ap (levels_of _) e ∙ by_level _ n _ false b)
-
-      pub levels-more : is_level n ≡ true → LevelsUpto text at old (set now k n) after (k + 1)
-      levels-more b =
-          let i : k < length now = omega (arith, u.size) in
-          record {
-            size = length-set now k n ∙ u.size;
-            inside = omega arith;
-            same =
-                one_more ∙ ap (onto (take k now)) (ap (levels_of _) e ∙ by_level _ n _ true b) ∙ onto-more (take k now) n (levels_of (length old - (k + 1)) (numbers_from text after)) ∙
-                ap (λ (l : List ℤ). onto l (levels_of (length old - (k + 1)) (numbers_from text after))) (sym (ap (λ (j : ℕ). take j (set now k n)) (add-one k) ∙ take-suc-set now k n i));
-          }
+        pub levels-more : is_level n ≡ true → LevelsUpto all old (set now k n) rest (k + 1)
+        levels-more b =
+            let i : k < length now = omega (arith, u.size) in
+            record {
+              size = length-set now k n ∙ u.size;
+              inside = omega arith;
+              same =
+                  one_more ∙ ap (onto (take k now)) (ap (levels_of _) e ∙ by_level _ n rest true b) ∙ onto-more (take k now) n (levels_of (length old - (k + 1)) rest)
+                  ∙ ap (λ (l : List ℤ). onto l (levels_of (length old - (k + 1)) rest)) (sym (ap (λ (j : ℕ). take j (set now k n)) (add-one k) ∙ take-suc-set now k n i));
+            }
 
   module _ (h : length old ≤ k) where
-    last : levels_of (length old) (numbers_from text at) ≡ onto now (levels_of 0 (numbers_from text place))
+    last : levels_of (length old) all ≡ onto now (levels_of 0 left)
     last =
         let z : length old - k ≡ 0 = omega arith in
         let a : length now ≤ k = omega (arith, u.size) in
-        u.same ∙ ap (λ (m : ℕ). onto (take k now) (levels_of m (numbers_from text place))) z ∙ ap (λ (l : List ℤ). onto l (levels_of 0 (numbers_from text place))) (take_all k now a)
+        u.same ∙ ap (λ (m : ℕ). onto (take k now) (levels_of m left)) z ∙ ap (λ (l : List ℤ). onto l (levels_of 0 left)) (take_all k now a)
 
-    module _ (t : Token) (e : numbers_from text place ≡ told text t) where
-      pub levels-extra : NotEnd t → levels_of (length old) (numbers_from text at) ≡ none
-      levels-extra o = last ∙ ap (onto now) (ap (levels_of 0) e ∙ extra-number (told text t) (not-nothing text t o))
+    levels-extra : (n : Option ℤ) (rest : List (Option ℤ)) → left ≡ n ∷ rest → levels_of (length old) all ≡ None
+    levels-extra n rest e = last ∙ ap (onto now) (ap (levels_of 0) e ∙ none-extra n rest)
 
-      pub levels-all : t ≡ End → levels_of (length old) (numbers_from text at) ≡ some now
-      levels-all is = last ∙ ap (onto now) (ap (levels_of 0) (e ∙ ap (told text) is) ∙ all_read) ∙ ap some (append-nil now)
+    levels-all : left ≡ [] → levels_of (length old) all ≡ Some now
+    levels-all e = last ∙ ap (onto now) (ap (levels_of 0) e ∙ all_read) ∙ ap Some (append-nil now)
+
+    -- nothing follows, or something does
+    pub levels-last : (o : Option (Option ℤ)) (rest : List (Option ℤ)) → YieldsFirst (λ s. s) left o rest → (b : Bool) → is_some o ≡ not b → levels_of (length old) all ≡ levels_told (then_some b tt) now
+    levels-last None rest e true i = levels-all e.0
+    levels-last None rest e false i = absurd (false≢true i)
+    levels-last (Some n) rest e true i = absurd (false≢true (sym i))
+    levels-last (Some n) rest e false i = levels-extra n rest e

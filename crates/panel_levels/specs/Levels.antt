@@ -1,9 +1,8 @@
 -- What the code that reads the levels means.
 -- Assumes nothing.
-use Rattle.std.specs.Prelude.{Bool, true, false, List, ℤ}
-use Rattle.std.proofs.Math.Option.{Option, none, some}
+use Rattle.std.specs.Prelude.{List, ℤ, Option, None, Some}
 
 -- the levels that an area holds, where they were read
-abbrev pub levels_told : Bool → List ℤ → Option (List ℤ)
-levels_told true l = some l
-levels_told false l = none
+abbrev pub levels_told : Option Unit → List ℤ → Option (List ℤ)
+levels_told (Some u) l = Some l
+levels_told None l = None

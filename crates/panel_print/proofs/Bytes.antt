@@ -1,22 +1,25 @@
 -- Decimal digits and the bytes of an area: one more digit, how many there are, and bytes stored in parts.
 -- Assumes nothing.
 use mathlib.Core.Path.{◌≡◌, refl, sym, ◌∙◌, ap, subst}
-use Prim.Native.Nat.{ℕ, zero, suc, ◌+◌, ◌*◌, ◌/◌, ◌%◌, ◌^◌, ◌≤◌, ◌<◌}
+use Prim.Native.Nat.{ℕ, zero, suc, ◌+◌, ◌-◌, ◌*◌, ◌/◌, ◌%◌, ◌^◌, ◌≤◌, ◌<◌}
 use native.Mathlib.Nat.{pow-suc}
 use native.Mathlib.Omega.{arith}
 use borrow.Author.Tests.{lt-ltb, le-ltb, ltb-true, ltb-false, leb-false}
 use mathlib.Core.Bool.{Bool, true, false}
-use mathlib.Core.List.{List, [], ◌∷◌, ◌++◌}
+use mathlib.Core.List.{List, [], ◌∷◌, ◌++◌, append_assoc, append-nil}
 use lib.Dec.{ltb}
-use lib.ListN.{length, set, length-append}
-use lib.Seq.{sets, length-sets}
+use lib.ListN.{length, take, drop, set, length-append, length-drop, drop_of_length-le}
+use native.Mathlib.Numerals.{add-one}
+use Rattle.std.proofs.Common.{drop_at, drop-drop}
+use Rattle.std.proofs.lemmas.List.{set_split}
+use lib.Seq.{take_at, take_all, length-take-le}
+use borrow.Rule.Slice.PartMut.{put_mid}
 use lib.IntN.{ℤ, pos, negsuc, nat_abs}
 use lib.Signed.{le_z}
 use mir.Syntax.{w16}
 use mir.Val.{SFits}
 use Rattle.numbers.proofs.Widths.{level-size}
-use Rattle.panel_language.specs.Text.{space, line_feed, minus, decimal_in, decimal, printed}
-use Rattle.panel_language.specs.Panel.{refused_line}
+use Rattle.panel_language.specs.Text.{space, minus, decimal_in, decimal, printed}
 use Rattle.panel_print.specs.Print.{Written}
 
 -- ---- decimal digits
@@ -61,27 +64,51 @@ few-digits (suc k) n h = go (few-digits k (n / 10)) (ltb n 10) refl
 pub length-one : (n : ℕ) → n < 10 → length (decimal n) ≡ 1
 length-one n h = ap length (decimal-one n h)
 
--- ---- stored in parts
-pub sets-append : (old : List ℕ) (at : ℕ) (xs ys : List ℕ) → sets old at (xs ++ ys) ≡ sets (sets old at xs) (at + length xs) ys
-sets-append old at [] ys = let e : at + 0 ≡ at = omega arith in rw e
-sets-append old at (x ∷ xs) ys =
-    let e : suc at + length xs ≡ at + suc (length xs) = omega arith in
-    sets-append (set old at x) (suc at) xs ys ∙ ap (λ (n : ℕ). sets (sets (set old at x) (suc at) xs) n ys) e
+-- ---- written in parts
+pub nothing : (old : List ℕ) → Written [] old old 0
+nothing old = record { area = refl; counted = refl }
 
--- bytes, and more after them
-pub written-more : (xs ys old new newer : List ℕ) (at place end : ℕ) → Written xs old at new place → Written ys new place newer end → Written (xs ++ ys) old at newer end
-written-more xs ys old new newer at place end v w =
-    record {
-      area = w.area ∙ (rw (v.area, v.place) (sym (sets-append old at xs ys)));
-      place = omega (arith, v.place, w.place, length-append xs ys);
-    }
+module _ (xs old new : List ℕ) (count : ℕ) (w : Written xs old new count) where
+  pub written-length : count ≤ length old → length new ≡ length old
+  written-length h = ap length w.area ∙ length-append xs (drop count old) ∙ omega (arith, w.counted, length-drop count old)
 
--- one byte more
-pub written_one : (old : List ℕ) (at b : ℕ) → Written (b ∷ []) old at (set old at b) (at + 1)
-written_one old at b = record { area = refl; place = refl }
+  -- the bytes, and the rest after them
+  front : take count new ≡ xs
+  front = ap (take count) w.area ∙ take_at xs (drop count old) count (sym w.counted)
 
-pub written_is : (xs ys old new : List ℕ) (at end : ℕ) → xs ≡ ys → Written xs old at new end → Written ys old at new end
-written_is xs ys old new at end e w = subst (λ (l : List ℕ). Written l old at new end) e w
+  rest : drop count new ≡ drop count old
+  rest = ap (drop count) w.area ∙ drop_at xs (drop count old) count (sym w.counted)
+
+  -- one byte more
+  pub then_byte : (b : ℕ) → count < length old → Written (xs ++ (b ∷ [])) old (set new count b) (count + 1)
+  then_byte b h =
+      let after : drop (count + 1) new ≡ drop (count + 1) old = sym (drop-drop 1 count new) ∙ ap (drop 1) rest ∙ drop-drop 1 count old in
+      let l : count < length new = omega (arith, written-length (omega arith)) in
+      record {
+        area = set_split new count b l ∙ rw (front, ← add-one count) (ap (λ l. xs ++ (b ∷ l)) after ∙ sym (append_assoc xs (b ∷ []) (drop (count + 1) old)));
+        counted = omega (arith, w.counted, length-append xs (b ∷ []));
+      }
+
+  -- the area after them, which is lent for more
+  pub room-after : length (take (length new - count) (drop count new)) ≡ length new - count
+  room-after = length-take-le (length new - count) (drop count new) (omega (arith, length-drop count new))
+
+  -- more bytes after them
+  pub then_bytes : (ys part : List ℕ) (more : ℕ) → Written ys (take (length new - count) (drop count new)) part more → Written (xs ++ ys) old (put_mid count (length new - count) new part) (count + more)
+  then_bytes ys part more v =
+      let all : take (length new - count) (drop count new) ≡ drop count new = take_all (length new - count) (drop count new) (omega (arith, length-drop count new)) in
+      let over : length (drop count new) ≤ length new - count = omega (arith, length-drop count new) in
+      let none : drop (length new - count) (drop count new) ≡ [] = drop_of_length-le (drop count new) over in
+      let is : part ≡ ys ++ drop (count + more) old = v.area ∙ ap (λ l. ys ++ drop more l) (all ∙ rest) ∙ ap (λ l. ys ++ l) (drop-drop more count old) in
+      record {
+        area =
+            ap (λ l. take count new ++ (part ++ l)) none ∙ ap (λ l. take count new ++ l) (append-nil part ∙ is) ∙ ap (λ l. l ++ (ys ++ drop (count + more) old)) front
+            ∙ sym (append_assoc xs ys (drop (count + more) old));
+        counted = omega (arith, w.counted, v.counted, length-append xs ys);
+      }
+
+pub written_is : (xs ys old new : List ℕ) (count : ℕ) → xs ≡ ys → Written xs old new count → Written ys old new count
+written_is xs ys old new count e w = subst (λ (l : List ℕ). Written l old new count) e w
 
 -- ---- a number with its sign
 pub printed-plain : (v : ℤ) → le_z (pos 0) v ≡ true → printed v ≡ decimal (nat_abs v)
@@ -109,10 +136,5 @@ level-bytes v f = go (le_z (pos 0) v) refl
 abbrev pub word : List ℕ
 word = 114 ∷ 101 ∷ 102 ∷ 117 ∷ 115 ∷ 101 ∷ 100 ∷ space ∷ []
 
-pub word-length : (out : List ℕ) → length (sets out 0 word) ≡ length out
-word-length out = length-sets out 0 word
-
-pub refused-written : (n : ℕ) (out last : List ℕ) (end : ℕ) → Written (decimal n) (sets out 0 word) 8 last end → Written (refused_line n) out 0 (set last end line_feed) (end + 1)
-refused-written n out last end w =
-    written-more word (decimal n ++ (line_feed ∷ [])) out (sets out 0 word) (set last end line_feed) 0 8 (end + 1) (record { area = refl; place = refl })
-    (written-more (decimal n) (line_feed ∷ []) (sets out 0 word) last (set last end line_feed) 8 end (end + 1) w (written_one last end line_feed))
+pub word-written : (out copied : List ℕ) → copied ≡ word → Written word out (copied ++ drop 8 out) 8
+word-written out copied e = record { area = ap (λ l. l ++ drop 8 out) e; counted = refl }

@@ -2,43 +2,42 @@
 -- Assumes nothing.
 use mathlib.Core.Path.{◌≡◌, refl, sym, ◌∙◌, ap, subst}
 use Prim.Native.Nat.{ℕ, zero, suc, ◌+◌, ◌-◌, ◌*◌, ◌≤◌, ◌<◌}
+use native.Mathlib.Nat.{mul-le-mul_right}
 use native.Mathlib.Numerals.{add-one}
 use native.Mathlib.Omega.{arith}
 use mathlib.Core.List.{List, [], ◌∷◌, ◌++◌, append-nil, append_assoc}
-use lib.ListN.{length, take, drop, length-append}
-use lib.Seq.{sets, length-sets}
-use lib.IntN.{ℤ}
+use lib.ListN.{length, take, drop, get_or-append}
+use lib.IntN.{ℤ, pos}
+use lib.Seq.{get_or-append_seam}
+use borrow.Rule.Slice.PartMut.{put_mid}
 use Rattle.numbers.proofs.Lines.{line-end, line-next}
 use Rattle.numbers.proofs.Writes.{at, slice_at, slice-length}
+use Rattle.picture.specs.declared.Size.{Size}
 use Rattle.panel_language.specs.Text.{space, line_feed, printed}
 use Rattle.panel_language.specs.Panel.{line_of, lines_of}
 use Rattle.panel_print.specs.Print.{Written, Fitted, value_at, LineRoom, LineWritten, LinesRoom}
-use Rattle.panel_print.proofs.Bytes.{sets-append}
+use Rattle.panel_print.proofs.Bytes.{nothing, written-length, room-after, then_bytes, written_is}
 
--- ---- bytes of which some are still to write, from `place` on
-pub record Remaining (bytes old : List ℕ) (start : ℕ) (rest new : List ℕ) (place : ℕ) : Type 0 where
-  pub area : sets old start bytes ≡ sets new place rest
-  pub end : start + length bytes ≡ place + length rest
-  pub size : length new ≡ length old
+-- ---- bytes of which the first are written, `rest` is still to write
+pub record Remaining (bytes old rest new : List ℕ) (count : ℕ) : Type 0 where
+  pub done : List ℕ
+  pub written : Written done old new count
+  pub split : bytes ≡ done ++ rest
 
-remaining-first : (bytes old : List ℕ) (start : ℕ) → Remaining bytes old start bytes old start
-remaining-first bytes old start = record { area = refl; end = refl; size = refl }
+remaining-first : (bytes old : List ℕ) → Remaining bytes old bytes old 0
+remaining-first bytes old = record { done = []; written = nothing old; split = refl }
 
-module _ (bytes old : List ℕ) (start : ℕ) (rest new : List ℕ) (place : ℕ) (r : Remaining bytes old start rest new place) where
-  remaining-more : (xs more newer : List ℕ) (end : ℕ) → rest ≡ xs ++ more → Written xs new place newer end → Remaining bytes old start more newer end
-  remaining-more xs more newer end e w =
+module _ (bytes old rest new : List ℕ) (count : ℕ) (r : Remaining bytes old rest new count) where
+  remaining-more : (xs more part : List ℕ) (n : ℕ) → rest ≡ xs ++ more → Written xs (take (length new - count) (drop count new)) part n → Remaining bytes old more (put_mid count (length new - count) new part) (count + n)
+  remaining-more xs more part n e w =
       record {
-        area = r.area ∙ ap (sets new place) e ∙ sets-append new place xs more ∙ rw (w.area, w.place);
-        end = r.end ∙ ap (λ (l : List ℕ). place + length l) e ∙ omega (arith, length-append xs more, w.place);
-        size = ap length w.area ∙ length-sets new place xs ∙ r.size;
+        done = r.done ++ xs;
+        written = then_bytes _ _ _ _ r.written xs part n w;
+        split = r.split ∙ ap (λ l. r.done ++ l) e ∙ sym (append_assoc r.done xs more);
       }
 
-  remaining-none : rest ≡ [] → Written bytes old start new place
-  remaining-none e =
-      record {
-        area = sym (r.area ∙ ap (sets new place) e);
-        place = omega (arith, r.end, ap length e);
-      }
+  remaining-none : rest ≡ [] → Written bytes old new count
+  remaining-none e = written_is _ _ _ _ _ (sym (r.split ∙ ap (λ l. r.done ++ l) e ∙ append-nil r.done)) r.written
 
 -- ---- one line
 line-cong : (f g : ℕ → ℤ) (n : ℕ) → ((j : ℕ) → j < n → f j ≡ g j) → line_of f n ≡ line_of g n
@@ -85,35 +84,52 @@ last-later f k n h =
     let z : k + 0 ≡ k = omega arith in
     rw e (line-one (λ j. f (k + j)) ∙ ap (λ (i : ℕ). (printed (f i) ++ (line_feed ∷ [])) ++ []) z)
 
--- k numbers of the line are written
-pub record LineUpto (row : List ℤ) (old : List ℕ) (start : ℕ) (new : List ℕ) (place k : ℕ) : Type 0 where
-  pub inside : k + 1 ≤ length row
-  pub room : place ≤ start + 7 * k
-  pub rest : Remaining (line_of (at row) (length row)) old start (later (at row) k (length row)) new place
+-- the last number of a row, and those before it
+module _ (row before : List ℤ) (last : ℤ) (parts : row ≡ before ++ (last ∷ [])) where
+  pub at-front : (k : ℕ) → k < length before → at before k ≡ at row k
+  at-front k h = sym (ap (λ l. at l k) parts ∙ get_or-append before (last ∷ []) (pos 0) k h)
 
-pub line_first : (row : List ℤ) (old : List ℕ) (start : ℕ) → 1 ≤ length row → LineUpto row old start old start 0
-line_first row old start h =
+  pub at-last : (k : ℕ) → k ≡ length before → last ≡ at row k
+  at-last k e = sym (ap (λ l. at l k) parts ∙ ap (λ j. at (before ++ (last ∷ [])) j) e ∙ get_or-append_seam before last [] (pos 0))
+
+-- k numbers of the line are written
+pub record LineUpto (row : List ℤ) (old new : List ℕ) (count k : ℕ) : Type 0 where
+  pub inside : k + 1 ≤ length row
+  pub room : count ≤ 7 * k
+  pub rest : Remaining (line_of (at row) (length row)) old (later (at row) k (length row)) new count
+
+pub line_first : (row : List ℤ) (old : List ℕ) → 1 ≤ length row → LineUpto row old old 0 0
+line_first row old h =
     record {
       inside = omega arith;
       room = omega arith;
-      rest = subst (λ (l : List ℕ). Remaining (line_of (at row) (length row)) old start l old start) (first-later (at row) (length row)) (remaining-first (line_of (at row) (length row)) old start);
+      rest = subst (λ (l : List ℕ). Remaining (line_of (at row) (length row)) old l old 0) (first-later (at row) (length row)) (remaining-first (line_of (at row) (length row)) old);
     }
 
-module _ (row : List ℤ) (old : List ℕ) (start : ℕ) (new : List ℕ) (place k : ℕ) (u : LineUpto row old start new place k) (newer : List ℕ) (end : ℕ) where
-  pub line-more : k + 1 < length row → Written (printed (at row k) ++ (space ∷ [])) new place newer end → end ≤ place + 7 → LineUpto row old start newer end (k + 1)
-  line-more h w s =
-      record {
-        inside = omega arith;
-        room = omega (arith, u.room);
-        rest = remaining-more _ _ _ _ _ _ u.rest _ _ _ _ (more-later (at row) k (length row) h) w;
-      }
+module _ (row : List ℤ) (old new : List ℕ) (count k : ℕ) (u : LineUpto row old new count k) where
+  -- there is room for one number more
+  pub line-room : LineRoom row old → 7 ≤ length (take (length new - count) (drop count new))
+  line-room asked =
+      let w = u.rest.written in
+      omega (arith, room-after _ _ _ _ w, written-length _ _ _ _ w (omega (arith, asked.room, u.room, u.inside)), asked.room, u.room, u.inside)
 
-  pub line-done : k + 1 ≡ length row → Written (printed (at row k) ++ (line_feed ∷ [])) new place newer end → end ≤ place + 7 → LineWritten row old start newer end
-  line-done h w s =
-      record {
-        written = remaining-none _ _ _ _ _ _ (remaining-more _ _ _ _ _ _ u.rest _ [] _ _ (last-later (at row) k (length row) h) w) refl;
-        short = omega (arith, u.room);
-      }
+  module _ (part : List ℕ) (n : ℕ) where
+    pub line-more : k + 1 < length row → Written (printed (at row k) ++ (space ∷ [])) (take (length new - count) (drop count new)) part n → n ≤ 7
+        → LineUpto row old (put_mid count (length new - count) new part) (count + n) (k + 1)
+    line-more h w s =
+        record {
+          inside = omega arith;
+          room = omega (arith, u.room);
+          rest = remaining-more _ _ _ _ _ u.rest _ _ _ _ (more-later (at row) k (length row) h) w;
+        }
+
+    pub line-done : k + 1 ≡ length row → Written (printed (at row k) ++ (line_feed ∷ [])) (take (length new - count) (drop count new)) part n → n ≤ 7
+        → LineWritten row old (put_mid count (length new - count) new part) (count + n)
+    line-done h w s =
+        record {
+          written = remaining-none _ _ _ _ _ (remaining-more _ _ _ _ _ u.rest _ [] _ _ (last-later (at row) k (length row) h) w) refl;
+          short = omega (arith, u.room);
+        }
 
 -- ---- all lines
 lines_more : (f : ℕ → ℕ → ℤ) (i n c : ℕ) → i < n → lines_of f i (n - i) c ≡ line_of (f i) c ++ lines_of f (i + 1) (n - (i + 1)) c
@@ -133,52 +149,54 @@ row_is means lo i c e h =
     rw n (line-cong (at (take (lo + c - lo) (drop lo means))) (value_at c means i) c (λ j l. slice_at lo (lo + c) means (omega arith) h j (omega arith) ∙ ap (λ (m : ℕ). at means (m + j)) e))
 
 -- the lines of the first i rows are written
-pub record LinesUpto (rows columns : ℕ) (means : List ℤ) (old new : List ℕ) (place lo i : ℕ) : Type 0 where
-  pub inside : i ≤ rows
-  pub row : lo ≡ i * columns
-  pub room : place ≤ 7 * lo
-  pub rest : Remaining (lines_of (value_at columns means) 0 rows columns) old 0 (lines_of (value_at columns means) i (rows - i) columns) new place
+pub record LinesUpto (z : Size) (means : List ℤ) (old new : List ℕ) (count i : ℕ) : Type 0 where
+  pub inside : i ≤ z.rows
+  pub room : count ≤ 7 * (i * z.columns)
+  pub rest : Remaining (lines_of (value_at z.columns means) 0 z.rows z.columns) old (lines_of (value_at z.columns means) i (z.rows - i) z.columns) new count
 
-pub lines-first : (rows columns : ℕ) (means : List ℤ) (old : List ℕ) → LinesUpto rows columns means old old 0 0 0
-lines-first rows columns means old =
-    let e : rows - 0 ≡ rows = omega arith in
+pub lines-first : (z : Size) (means : List ℤ) (old : List ℕ) → LinesUpto z means old old 0 0
+lines-first z means old =
+    let e : z.rows - 0 ≡ z.rows = omega arith in
     record {
       inside = omega arith;
-      row = omega arith;
       room = omega arith;
-      rest = rw e (remaining-first _ old 0);
+      rest = rw e (remaining-first _ old);
     }
 
-module _ (rows columns : ℕ) (means : List ℤ) (old new : List ℕ) (place lo i : ℕ) (asked : LinesRoom rows columns means old) (u : LinesUpto rows columns means old new place lo i) where
-  module _ (h : i < rows) where
-    row_inside : lo + columns ≤ rows * columns
-    row_inside = omega (arith, u.row, line-end i rows columns h)
+module _ (z : Size) (means : List ℤ) (old new : List ℕ) (count i : ℕ) (asked : LinesRoom z means old) (u : LinesUpto z means old new count i) where
+  pub count-inside : count ≤ length old
+  count-inside = omega (arith, u.room, asked.room, mul-le-mul_right z.columns u.inside)
 
-    pub row-part : lo + columns ≤ length means
+  module _ (h : i < z.rows) where
+    row_inside : i * z.columns + z.columns ≤ z.rows * z.columns
+    row_inside = line-end i z.rows z.columns h
+
+    pub row-part : i * z.columns + z.columns ≤ length means
     row-part = omega (arith, row_inside, asked.full)
 
-    row-length : length (take (lo + columns - lo) (drop lo means)) ≡ columns
-    row-length = slice-length lo (lo + columns) means (omega arith) row-part ∙ omega arith
+    row-length : length (take (i * z.columns + z.columns - i * z.columns) (drop (i * z.columns) means)) ≡ z.columns
+    row-length = slice-length (i * z.columns) (i * z.columns + z.columns) means (omega arith) row-part ∙ omega arith
 
-    pub row_room : LineRoom (take (lo + columns - lo) (drop lo means)) place new
-    row_room = record {
-      some_column = omega (arith, row-length, asked.some_column);
-      room = omega (arith, row-length, u.room, u.rest.size, asked.room, row_inside);
-    }
-
-    pub lines_next : (newer : List ℕ) (end : ℕ) → LineWritten (take (lo + columns - lo) (drop lo means)) new place newer end → LinesUpto rows columns means old newer end (lo + columns) (i + 1)
-    lines_next newer end w =
+    pub row_room : LineRoom (take (i * z.columns + z.columns - i * z.columns) (drop (i * z.columns) means)) (take (length new - count) (drop count new))
+    row_room =
+        let w = u.rest.written in
         record {
-          inside = omega arith;
-          row = omega (arith, u.row, line-next i columns);
-          room = omega (arith, u.room, w.short, row-length);
-          rest = remaining-more _ _ _ _ _ _ u.rest _ _ _ _ (lines_more (value_at columns means) i rows columns h) (subst (λ (l : List ℕ). Written l new place newer end) (row_is means lo i columns u.row row-part) w.written);
+          some_column = omega (arith, row-length, asked.some_column);
+          room = omega (arith, row-length, room-after _ _ _ _ w, written-length _ _ _ _ w count-inside, u.room, row_inside, asked.room);
         }
 
-  pub lines-done : rows ≤ i → Fitted (lines_of (value_at columns means) 0 rows columns) old 0 new place
+    pub lines_next : (part : List ℕ) (n : ℕ) → LineWritten (take (i * z.columns + z.columns - i * z.columns) (drop (i * z.columns) means)) (take (length new - count) (drop count new)) part n
+        → LinesUpto z means old (put_mid count (length new - count) new part) (count + n) (i + 1)
+    lines_next part n w =
+        record {
+          inside = omega arith;
+          room = omega (arith, w.short, row-length, u.room, line-next i z.columns);
+          rest = remaining-more _ _ _ _ _ u.rest _ _ _ _ (lines_more (value_at z.columns means) i z.rows z.columns h) (written_is _ _ _ _ _ (row_is means (i * z.columns) i z.columns refl row-part) w.written);
+        }
+
+  pub lines-done : z.rows ≤ i → Fitted (lines_of (value_at z.columns means) 0 z.rows z.columns) old new count
   lines-done h =
-      let e : i ≡ rows = omega (arith, u.inside) in
       record {
-        written = remaining-none _ _ _ _ _ _ u.rest (lines_none (value_at columns means) i rows columns h);
-        inside = omega (arith, u.room, u.row, ap (λ (n : ℕ). n * columns) e, asked.room);
+        written = remaining-none _ _ _ _ _ u.rest (lines_none (value_at z.columns means) i z.rows z.columns h);
+        inside = count-inside;
       }

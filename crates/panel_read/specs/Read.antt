@@ -1,39 +1,47 @@
 -- What the code that reads the numbers means: what is left to ask once the size, the window, the levels are read.
 -- Assumes nothing.
-use Rattle.std.specs.Prelude.{◌≡◌, ℕ, ◌≤◌, List, T, length, take, ℤ}
+use Rattle.std.specs.Prelude.{◌≡◌, ◌≤◌, Bool, true, false, List, [], ◌∷◌, T, length, take, ℤ, Option, None, Some, Result, Ok, Err}
 use Rattle.picture.specs.Refusal.{Outcome, refused, answered}
+use Rattle.picture.specs.declared.Refusal.{Refusal}
+use Rattle.picture.specs.declared.Refusal.TheVariants as line
+use Rattle.picture.specs.Answers.{number}
 use Rattle.picture.specs.declared.Size.{Size}
 use Rattle.picture.specs.Size.{cells}
-use Rattle.panel_read.specs.declared.SizeRead.{SizeRead}
-use Rattle.panel_read.specs.declared.SizeRead.TheVariants.{Refused as SizeRefused, Taken as SizeTaken}
-use Rattle.panel_read.specs.declared.WindowRead.{WindowRead}
-use Rattle.panel_read.specs.declared.WindowRead.TheVariants.{Malformed, Taken as WindowTaken}
-use Rattle.panel_read.specs.declared.Parsed.{Parsed}
-use Rattle.panel_read.specs.declared.Parsed.TheVariants.{Refused, Taken}
-use Rattle.panel_scan.specs.Scan.{numbers_from}
+use Rattle.picture.specs.declared.Window.{Window}
 use Rattle.panel_language.specs.Panel.{Drawing, panel_size, levels_of, framed, filled, sized}
 
+-- no number stands first
+abbrev pub no_number : List (Option ℤ) → Bool
+no_number [] = true
+no_number (None ∷ ns) = true
+no_number (Some n ∷ ns) = false
+
+-- the number that stands first, and the numbers left after it, or its refusal
+abbrev pub NumberIs : List (Option ℤ) → Result ℤ Refusal → List (Option ℤ) → Type 0
+NumberIs ns (Ok n) left = ns ≡ Some n ∷ left
+NumberIs ns (Err e) left = (e ≡ line.Text) × T (no_number ns)
+
 -- the outcome after the size was read
-abbrev pub size_told : List ℕ → SizeRead → Outcome Drawing
-size_told text (SizeRefused n) = refused n
-size_told text (SizeTaken z after) = filled z (numbers_from text after)
+abbrev pub size_told : Result Size Refusal → List (Option ℤ) → Outcome Drawing
+size_told (Err e) left = refused (number e)
+size_told (Ok z) left = filled z left
 
 -- a size that was taken is legal
-abbrev pub SizeLegal : SizeRead → Type 0
-SizeLegal (SizeRefused n) = Unit
-SizeLegal (SizeTaken z after) = T (panel_size z)
+abbrev pub SizeLegal : Result Size Refusal → Type 0
+SizeLegal (Err e) = Unit
+SizeLegal (Ok z) = T (panel_size z)
 
-pub record SizeIs (text : List ℕ) (r : SizeRead) : Type 0 where
-  pub same : sized (numbers_from text 0) ≡ size_told text r
+pub record SizeIs (ns : List (Option ℤ)) (r : Result Size Refusal) (left : List (Option ℤ)) : Type 0 where
+  pub same : sized ns ≡ size_told r left
   pub legal : SizeLegal r
 
 -- the outcome of a picture of size z after its window was read
-abbrev pub window_told : List ℕ → Size → WindowRead → Outcome Drawing
-window_told text z Malformed = refused 10
-window_told text z (WindowTaken w after) = framed z w (levels_of (cells z) (numbers_from text after))
+abbrev pub window_told : Size → Result Window Refusal → List (Option ℤ) → Outcome Drawing
+window_told z (Err e) left = refused (number e)
+window_told z (Ok w) left = framed z w (levels_of (cells z) left)
 
-pub record WindowIs (text : List ℕ) (at : ℕ) (r : WindowRead) : Type 0 where
-  pub same : (z : Size) → filled z (numbers_from text at) ≡ window_told text z r
+pub record WindowIs (ns : List (Option ℤ)) (r : Result Window Refusal) (left : List (Option ℤ)) : Type 0 where
+  pub same : (z : Size) → filled z ns ≡ window_told z r left
 
 -- a legal size, and an area that has room for its levels
 pub record Roomy (z : Size) (area : List ℤ) : Type 0 where
@@ -41,6 +49,6 @@ pub record Roomy (z : Size) (area : List ℤ) : Type 0 where
   pub room : 4096 ≤ length area
 
 -- what a text asks for that was taken, its levels being the first of an area
-abbrev pub drawn : Parsed → List ℤ → Outcome Drawing
-drawn (Refused n) l = refused n
-drawn (Taken z w) l = answered (record { size = z; window = w; levels = take (cells z) l })
+abbrev pub drawn : Result (Size × Window) Refusal → List ℤ → Outcome Drawing
+drawn (Err e) l = refused (number e)
+drawn (Ok p) l = answered (record { size = p.0; window = p.1; levels = take (cells p.0) l })

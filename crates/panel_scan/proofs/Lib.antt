@@ -1,3 +1,3 @@
-mod Runs
 mod Digits
-mod Numbers
+mod Runs
+mod Signs

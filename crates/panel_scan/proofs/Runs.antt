@@ -1,17 +1,30 @@
--- The runs of a text from a place on: past a divider, as a run grows, and where it ends.
+-- The runs of a text: past the dividers before the first, and past the first.
 -- Assumes nothing.
-use mathlib.Core.Path.{◌≡◌, refl, sym, ◌∙◌, ap}
-use Prim.Native.Nat.{ℕ, suc, ◌+◌, ◌-◌, ◌≤◌, ◌<◌}
-use native.Mathlib.Numerals.{add-one}
-use native.Mathlib.Omega.{arith}
-use mathlib.Core.Bool.{Bool, true, false}
-use mathlib.Core.List.{List, [], ◌∷◌, ◌++◌}
-use lib.ListN.{length, get_or, take, drop, length-take, length-drop, drop_of_length-le}
-use lib.Seq.{take-suc, drop-cons, get_or-drop}
-use Rattle.panel_language.specs.Text.{divides, ended, runs_from, runs}
-use Rattle.panel_scan.specs.Scan.{InRun, RunEnd}
+use Rattle.std.proofs.Common.{◌≡◌, refl, sym, ◌∙◌, ap, ℕ, suc, ◌+◌, ◌≤◌, ◌<◌, Bool, true, false, not, cond, ltb, ltb-false, List, [], ◌∷◌, ◌++◌, length, get_or, take, drop, map, append-nil, Some, None, unwrap_or, position, arith}
+use lib.ListN.{drop_of_length-le, length-drop}
+use lib.Seq.{append_snoc, get_or-drop}
+use borrow.Author.Tests.{not-true}
+use Rattle.std.specs.List.{position_or_len}
+use Rattle.std.proofs.lemmas.List.Sums.{prefix_len-le-length}
+use Rattle.std.proofs.lemmas.List.Quantifiers.{position-Some}
+use Rattle.panel_language.specs.Text.{divides, ended, runs_from, runs, number}
 
--- a byte that divides ends the run before it, and any other is the run's next
+abbrev joins : ℕ → Bool
+joins b = not (divides b)
+
+-- the place that a search gives is the first, or else the length
+module _ {A : Type 0} (p : A → Bool) (xs : List A) where
+  place-le : position_or_len p xs ≤ length xs
+  place-le = prefix_len-le-length (λ x. not (p x)) xs
+
+  place-or : unwrap_or (position p xs) (length xs) ≡ position_or_len p xs
+  place-or = go (ltb (position_or_len p xs) (length xs)) refl
+    where
+      go : (b : Bool) → ltb (position_or_len p xs) (length xs) ≡ b → unwrap_or (cond b (Some (position_or_len p xs)) None) (length xs) ≡ position_or_len p xs
+      go true e = refl
+      go false e = let h = ltb-false (position_or_len p xs) (length xs) e in omega (arith, place-le)
+
+-- a divider ends the run before it, and any other byte is the run's next
 divides-run : (run bs : List ℕ) (b : ℕ) → divides b ≡ true → runs_from run (b ∷ bs) ≡ ended run ++ runs_from [] bs
 unfolding runs_from
 divides-run run bs b d = ap (λ (x : Bool). elim x [ true ↦ ended run ++ runs_from [] bs | false ↦ runs_from (run ++ (b ∷ [])) bs ]) d
@@ -20,79 +33,60 @@ joins-run : (run bs : List ℕ) (b : ℕ) → divides b ≡ false → runs_from 
 unfolding runs_from
 joins-run run bs b d = ap (λ (x : Bool). elim x [ true ↦ ended run ++ runs_from [] bs | false ↦ runs_from (run ++ (b ∷ [])) bs ]) d
 
--- a divider does not begin a run
-pub runs_past : (text : List ℕ) (i : ℕ) → i < length text → divides (get_or text i 0) ≡ true → runs (drop i text) ≡ runs (drop (i + 1) text)
-unfolding ended
-runs_past text i h d = rw (add-one, drop-cons text i 0, divides-run [] _ _ d)
-
--- the run that began at `start` and has not ended before `i`
-pub record RunUpto (text : List ℕ) (start i : ℕ) : Type 0 where
-  pub after : start < i
-  pub inside : i ≤ length text
-  pub same : runs (drop start text) ≡ runs_from (take (i - start) (drop start text)) (drop i text)
-
-part-more : (text : List ℕ) (start i : ℕ) → start ≤ i → i < length text → take (i + 1 - start) (drop start text) ≡ take (i - start) (drop start text) ++ (get_or text i 0 ∷ [])
-part-more text start i h l =
-    let e : i + 1 - start ≡ suc (i - start) = omega arith in
-    let k : start + (i - start) ≡ i = omega arith in
-    let b : i - start < length (drop start text) = simp length-drop (omega arith) in
-    rw (e, take-suc (drop start text) (i - start) 0, get_or-drop, k)
-
-run-grows : (text run : List ℕ) (i : ℕ) → i < length text → divides (get_or text i 0) ≡ false → runs_from run (drop i text) ≡ runs_from (run ++ (get_or text i 0 ∷ [])) (drop (i + 1) text)
-run-grows text run i h d = rw (add-one, drop-cons text i 0, joins-run run _ _ d)
-
-pub upto-first : (text : List ℕ) (start : ℕ) → InRun text start → RunUpto text start (start + 1)
-upto-first text start r =
-    let e : start - start ≡ 0 = omega arith in
-    record {
-      after = omega arith;
-      inside = omega (arith, r.inside);
-      same = run-grows text [] start r.inside r.byte ∙ ap (λ (l : List ℕ). runs_from l (drop (start + 1) text)) (sym (part-more text start start (omega arith) r.inside ∙ rw e));
-    }
-
-pub upto-more : (text : List ℕ) (start i : ℕ) → RunUpto text start i → i < length text → divides (get_or text i 0) ≡ false → RunUpto text start (i + 1)
-upto-more text start i u h d =
-    record {
-      after = omega (arith, u.after);
-      inside = omega arith;
-      same = u.same ∙ run-grows text _ i h d ∙ ap (λ (l : List ℕ). runs_from l (drop (i + 1) text)) (sym (part-more text start i (omega (arith, u.after)) h));
-    }
-
-ended_some : (run : List ℕ) → 0 < length run → ended run ≡ run ∷ []
-unfolding ended
-ended_some [] h = absurd (omega arith)
-ended_some (b ∷ bs) h = refl
-
-part-some : (text : List ℕ) (start i : ℕ) → start < i → i ≤ length text → 0 < length (take (i - start) (drop start text))
-part-some text start i h l = simp (length-take, length-drop) (omega arith)
-
--- at a divider a run ends
-stops_at : (text run : List ℕ) (i : ℕ) → i < length text → divides (get_or text i 0) ≡ true → runs_from run (drop i text) ≡ ended run ++ runs (drop i text)
-unfolding ended
-stops_at text run i h d = rw (drop-cons text i 0, divides-run run _ _ d, divides-run [] _ _ d)
-
--- so it does at the text's end
-stops-last : (text run : List ℕ) (i : ℕ) → length text ≤ i → runs_from run (drop i text) ≡ ended run
+last-ends : (run : List ℕ) → runs_from run [] ≡ ended run
 unfolding runs_from
-stops-last text run i h = rw (drop_of_length-le text h)
+last-ends run = refl
 
-pub no-runs : (text : List ℕ) (i : ℕ) → length text ≤ i → runs (drop i text) ≡ []
+no-runs : runs [] ≡ []
 unfolding runs_from ended
-no-runs text i h = rw (drop_of_length-le text h)
+no-runs = refl
 
-pub upto-divider : (text : List ℕ) (start i : ℕ) → RunUpto text start i → i < length text → divides (get_or text i 0) ≡ true → RunEnd text start i
-upto-divider text start i u h d =
-    record {
-      after = u.after;
-      inside = u.inside;
-      first = u.same ∙ stops_at text _ i h d ∙ ap (λ (l : List (List ℕ)). l ++ runs (drop i text)) (ended_some _ (part-some text start i u.after u.inside));
-    }
+drop-more : (n b : ℕ) (bs : List ℕ) → drop (1 + n) (b ∷ bs) ≡ drop n bs
+drop-more n b bs = let e : 1 + n ≡ suc n = omega arith in rw e
 
-pub upto-last : (text : List ℕ) (start i : ℕ) → RunUpto text start i → length text ≤ i → RunEnd text start i
-upto-last text start i u h =
-    record {
-      after = u.after;
-      inside = u.inside;
-      first =
-          u.same ∙ stops-last text _ i h ∙ ended_some _ (part-some text start i u.after u.inside) ∙ ap (λ (l : List (List ℕ)). take (i - start) (drop start text) ∷ l) (sym (no-runs text i h));
-    }
+take-more : (n b : ℕ) (bs : List ℕ) → take (1 + n) (b ∷ bs) ≡ b ∷ take n bs
+take-more n b bs = let e : 1 + n ≡ suc n = omega arith in rw e
+
+-- dividers do not begin a run
+past : (text : List ℕ) → runs text ≡ runs (drop (position_or_len joins text) text)
+unfolding ended
+past [] = refl
+past (b ∷ bs) = go (divides b) refl (past bs)
+  where
+    go : (d : Bool) → divides b ≡ d → runs bs ≡ runs (drop (position_or_len joins bs) bs) → runs (b ∷ bs) ≡ runs (drop (cond (not (not d)) (1 + position_or_len joins bs) 0) (b ∷ bs))
+    go true e next = divides-run [] bs b e ∙ next ∙ ap runs (sym (drop-more (position_or_len joins bs) b bs))
+    go false e next = refl
+
+-- a run ends before the first divider
+first-ends : (run text : List ℕ) → runs_from run text ≡ ended (run ++ take (position_or_len divides text) text) ++ runs (drop (position_or_len divides text) text)
+unfolding ended
+first-ends run [] = last-ends run ∙ sym (append-nil (ended run)) ∙ ap (λ l. ended l ++ []) (sym (append-nil run)) ∙ ap (λ l. ended (run ++ []) ++ l) (sym no-runs)
+first-ends run (b ∷ bs) = go (divides b) refl (first-ends (run ++ (b ∷ [])) bs)
+  where
+    go : (d : Bool) → divides b ≡ d → runs_from (run ++ (b ∷ [])) bs ≡ ended ((run ++ (b ∷ [])) ++ take (position_or_len divides bs) bs) ++ runs (drop (position_or_len divides bs) bs)
+        → runs_from run (b ∷ bs) ≡ ended (run ++ take (cond (not d) (1 + position_or_len divides bs) 0) (b ∷ bs)) ++ runs (drop (cond (not d) (1 + position_or_len divides bs) 0) (b ∷ bs))
+    go true e next = divides-run run bs b e ∙ rw (append-nil run, divides-run [] bs b e)
+    go false e next = joins-run run bs b e ∙ next ∙ rw (append_snoc run b (take (position_or_len divides bs) bs), take-more (position_or_len divides bs) b bs, drop-more (position_or_len divides bs) b bs)
+
+-- no byte is of a run
+pub numbers-none : (text : List ℕ) → position joins text ≡ None → map number (runs text) ≡ []
+numbers-none text e =
+    let at : length text ≡ position_or_len joins text = ap (λ o. unwrap_or o (length text)) (sym e) ∙ place-or joins text in
+    ap (map number) (past text ∙ ap (λ n. runs (drop n text)) (sym at) ∙ ap runs (drop_of_length-le text (omega arith)) ∙ no-runs)
+
+-- a run that has begun is the first, up to its end
+runs-first : (text : List ℕ) → 0 < length text → divides (get_or text 0 0) ≡ false → runs text ≡ take (position_or_len divides text) text ∷ runs (drop (position_or_len divides text) text)
+unfolding ended
+runs-first [] h d = absurd (omega arith)
+runs-first (b ∷ bs) h d = first-ends [] (b ∷ bs) ∙ rw (d, take-more (position_or_len divides bs) b bs)
+
+pub numbers-some : (text : List ℕ) (start : ℕ) → position joins text ≡ Some start → (from run rest : List ℕ) (end : ℕ) → from ≡ drop start text → end ≡ unwrap_or (position divides from) (length from) → run ≡ take end from → rest ≡ drop end from
+    → map number (runs text) ≡ number run ∷ map number (runs rest)
+numbers-some text start s from run rest end f e r t =
+    let found = position-Some joins text start 0 s in
+    let at : start ≡ position_or_len joins text = ap (λ o. unwrap_or o (length text)) (sym s) ∙ place-or joins text in
+    let here : start + 0 ≡ start = omega arith in
+    let first : divides (get_or from 0 0) ≡ false = rw (f, get_or-drop, here) (not-true (divides (get_or text start 0)) found.1) in
+    let stop : end ≡ position_or_len divides from = e ∙ place-or divides from in
+    let parts : take (position_or_len divides from) from ∷ runs (drop (position_or_len divides from) from) ≡ run ∷ runs rest = rw (r, t, stop) in
+    ap (map number) (past text ∙ ap (λ n. runs (drop n text)) (sym at) ∙ ap runs (sym f) ∙ runs-first from (omega (arith, ap length f, length-drop start text, found.0)) first ∙ parts)

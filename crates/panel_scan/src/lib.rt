@@ -1,155 +1,92 @@
-// From the bytes of panel's text to numbers: the dividers are passed over, a run is found, and its number is taken.
+// From the bytes of panel's text to numbers: an iterator that passes over the dividers, finds a run, and gives its number.
 #![tactic(auto)]
 
-ghost use Rattle.std.specs.Prelude.{◌≡◌, ◌-◌, ◌≤◌, T, pos};
-ghost use Rattle.panel_language.specs.Text.{divides, is_digit, all_digits, value_from, natural, map_option, number};
-ghost use Rattle.panel_scan.specs.Scan.{RunStart, InRun, RunEnd, Digits, said, numbers_from, told};
+ghost use Rattle.std.specs.Prelude.{◌≡◌, ◌≤◌, List, Option, ℤ, pos, map, not, IfSome, position, option_map};
+ghost use Rattle.std.specs.Iterator.{YieldsFirst, item_count};
+ghost use Rattle.panel_language.specs.Text.{divides, runs, natural, number};
 
-// What a run of bytes says: a number, or that it is malformed.
-#[derive(Clone, Copy)]
-pub enum Run {
-    Malformed,
-    Number(i32),
-}
-
-// What stands next in the text, and the place after it.
-#[derive(Clone, Copy)]
-pub enum Token {
-    End,
-    Malformed(usize),
-    Number(i32, usize),
-}
+use std::marker::Model;
 
 // "blanks are spaces and tabs, a line end is a line feed"
+#[tactic(auto, unfolding(panel_language::specs::Text::divides))]
 fn is_divider(b: u8) -> bool
     ensures { result ≡ divides b }
 {
-    if b == b' ' {
-        return true;
-    }
-    if b == b'\t' {
-        return true;
-    }
-    b == b'\n'
+    matches!(b, b' ' | b'\t' | b'\n')
 }
 
-fn is_digit(b: u8) -> bool
-    ensures { result ≡ is_digit b }
+// Where the first run begins; None where no byte is of a run.
+fn run_start(text: &[u8]) -> Option<usize>
+    ensures { result ≡ position (λ b. not (divides b)) text.now }
 {
-    if b < b'0' {
-        return false;
-    }
-    b <= b'9'
+    text.iter().position(|b| !is_divider(*b))
 }
 
-// The first place from `at` on whose byte does not divide; the text's length where there is none.
-fn run_start(text: &[u8], at: usize) -> usize
-    ensures { RunStart text.now at result }
+// Where the run at the front ends; None where it is the whole text.
+fn run_end(text: &[u8]) -> Option<usize>
+    ensures { result ≡ position divides text.now }
 {
-    let mut i = at;
-    while i < text.len() {
-        if !is_divider(text[i]) {
-            return i;
-        }
-        i += 1;
-    }
-    i
-}
-
-// The first place after `start` whose byte divides; the text's length where there is none.
-fn run_end(text: &[u8], start: usize) -> usize
-    requires { InRun text.now start }
-    ensures { RunEnd text.now start result }
-{
-    let mut i = start + 1;
-    while i < text.len() {
-        if is_divider(text[i]) {
-            return i;
-        }
-        i += 1;
-    }
-    i
-}
-
-fn all_digits(run: &[u8]) -> bool
-    ensures { result ≡ all_digits run.now }
-{
-    let mut i = 0;
-    while i < run.len() {
-        if !is_digit(run[i]) {
-            return false;
-        }
-        i += 1;
-    }
-    true
-}
-
-// The value of a digit.
-fn digit(b: u8) -> u32
-    requires { T (is_digit b) }
-    ensures { (result ≡ b - 48) × (result ≤ 9) }
-{
-    (b - b'0') as u32
-}
-
-// The value of at most nine digits.
-fn value(run: &[u8]) -> u32
-    requires { Digits run.now }
-    ensures { (result ≡ value_from 0 run.now) × (result ≤ 999999999) }
-{
-    let mut v: u32 = 0;
-    let mut i = 0;
-    while i < run.len() {
-        v = 10 * v + digit(run[i]);
-        i += 1;
-    }
-    v
+    text.iter().position(|b| is_divider(*b))
 }
 
 // "1 to 9 digits"
-fn natural(run: &[u8]) -> Run
-    ensures { said result ≡ map_option pos (natural run.now) }
+fn natural(run: &[u8]) -> Option<u32>
+    ensures value { result ≡ natural run.now }
+    ensures small { IfSome result (λ n. n ≤ 999999999) }
 {
-    if run.len() < 1 {
-        return Run::Malformed;
+    if !(1..=9).contains(&run.len()) {
+        return None;
     }
-    if run.len() > 9 {
-        return Run::Malformed;
+    let mut value = 0;
+    for b in run {
+        value = 10 * value + (*b as char).to_digit(10)?;
     }
-    if !all_digits(run) {
-        return Run::Malformed;
-    }
-    Run::Number(value(run) as i32)
+    Some(value)
 }
 
 // "A number is an optional minus sign and 1 to 9 digits"
-fn number(run: &[u8]) -> Run
-    ensures { said result ≡ number run.now }
+fn number(run: &[u8]) -> Option<i32>
+    ensures { result ≡ number run.now }
 {
-    if run.len() == 0 {
-        return Run::Malformed;
-    }
-    if run[0] != b'-' {
-        return natural(run);
-    }
-    let after_sign = 1;
-    match natural(&run[after_sign..]) {
-        Run::Malformed => Run::Malformed,
-        Run::Number(n) => Run::Number(-n),
+    match run.strip_prefix(b"-") {
+        Some(digits) => natural(digits).map(|n| -(n as i32)),
+        None => natural(run).map(|n| n as i32),
     }
 }
 
-// The number that stands next from `at` on.
-pub fn next(text: &[u8], at: usize) -> Token
-    ensures { numbers_from text.now at ≡ told text.now result }
-{
-    let start = run_start(text, at);
-    if start >= text.len() {
-        return Token::End;
+// The numbers of a text from a place on. A run that is malformed gives None.
+#[derive(Drop)]
+pub struct Numbers<'a> {
+    rest: &'a [u8],
+}
+
+impl<'a> Model for Numbers<'a> {
+    ghost Value = { List (Option ℤ) };
+
+    ghost view = { λ s. map number (runs s.rest.now) };
+}
+
+impl<'a> Numbers<'a> {
+    // All numbers of a text.
+    pub fn new(text: &'a [u8]) -> Self
+        ensures { result ≡ map number (runs text.now) }
+    {
+        Numbers { rest: text }
     }
-    let end = run_end(text, start);
-    match number(&text[start..end]) {
-        Run::Malformed => Token::Malformed(end),
-        Run::Number(n) => Token::Number(n, end),
+}
+
+impl<'a> Iterator for Numbers<'a> {
+    type Item = Option<i32>;
+
+    ghost next_gives = { YieldsFirst (λ s. s) };
+
+    ghost remaining = { item_count (λ s. s) };
+
+    fn next(&mut self) -> Option<Option<i32>> {
+        let start = run_start(self.rest)?;
+        let (_, text) = self.rest.split_at(start);
+        let (run, rest) = text.split_at(run_end(text).unwrap_or(text.len()));
+        self.rest = rest;
+        Some(number(run))
     }
 }

@@ -7,7 +7,7 @@ use native.Mathlib.Omega.{arith}
 use borrow.Author.Tests.{ltb-false}
 use mathlib.Core.Bool.{Bool, true, false}
 use mathlib.Core.List.{List, [], ◌∷◌, ◌++◌, map}
-use mathlib.Core.Option.{Option, none, some}
+use Rattle.std.specs.Prelude.{Option, None, Some}
 use lib.Dec.{ltb}
 use lib.ListN.{length, drop, length-append, length-drop}
 use lib.IntN.{ℤ}
@@ -37,8 +37,8 @@ Small (answered d) = Unit
 
 framed-small : (z : Size) (w : Window) (o : Option (List ℤ)) → Small (framed z w o)
 unfolding framed
-framed-small z w none = omega arith
-framed-small z w (some l) = go (window_legal w)
+framed-small z w None = omega arith
+framed-small z w (Some l) = go (window_legal w)
   where
     go : (b : Bool) → Small (elim b [ true ↦ answered (record { size = z; window = w; levels = l }) | false ↦ refused 3 ])
     go true = tt
@@ -47,20 +47,20 @@ framed-small z w (some l) = go (window_legal w)
 filled-small : (z : Size) (ns : List (Option ℤ)) → Small (filled z ns)
 unfolding filled
 filled-small z [] = omega arith
-filled-small z (none ∷ ns) = omega arith
-filled-small z (some s ∷ []) = omega arith
-filled-small z (some s ∷ none ∷ ns) = omega arith
-filled-small z (some s ∷ some a ∷ []) = omega arith
-filled-small z (some s ∷ some a ∷ none ∷ ns) = omega arith
-filled-small z (some s ∷ some a ∷ some b ∷ ns) = framed-small z (window (count_of s) a b) (levels_of (cells z) ns)
+filled-small z (None ∷ ns) = omega arith
+filled-small z (Some s ∷ []) = omega arith
+filled-small z (Some s ∷ None ∷ ns) = omega arith
+filled-small z (Some s ∷ Some a ∷ []) = omega arith
+filled-small z (Some s ∷ Some a ∷ None ∷ ns) = omega arith
+filled-small z (Some s ∷ Some a ∷ Some b ∷ ns) = framed-small z (window (count_of s) a b) (levels_of (cells z) ns)
 
 sized-small : (ns : List (Option ℤ)) → Small (sized ns)
 unfolding sized
 sized-small [] = omega arith
-sized-small (none ∷ ns) = omega arith
-sized-small (some r ∷ []) = omega arith
-sized-small (some r ∷ none ∷ ns) = omega arith
-sized-small (some r ∷ some c ∷ ns) = go (panel_size (size (count_of r) (count_of c)))
+sized-small (None ∷ ns) = omega arith
+sized-small (Some r ∷ []) = omega arith
+sized-small (Some r ∷ None ∷ ns) = omega arith
+sized-small (Some r ∷ Some c ∷ ns) = go (panel_size (size (count_of r) (count_of c)))
   where
     go : (b : Bool) → Small (elim b [ true ↦ filled (size (count_of r) (count_of c)) ns | false ↦ refused 1 ])
     go true = filled-small (size (count_of r) (count_of c)) ns

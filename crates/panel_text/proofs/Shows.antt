@@ -1,7 +1,7 @@
 -- A picture that was taken is not refused by smoothing, and its lines are what panel shows; an output that stands at the front of its area.
 -- Assumes nothing.
 use mathlib.Core.Path.{◌≡◌, sym, ◌∙◌, ap, subst}
-use Prim.Native.Nat.{ℕ, ◌+◌, ◌≤◌, ◌<◌}
+use Prim.Native.Nat.{ℕ, ◌≤◌, ◌<◌}
 use native.Mathlib.Omega.{arith}
 use borrow.Author.Tests.{lt-ltb, le-ltb}
 use mathlib.Core.Bool.{Bool, true, false}
@@ -9,7 +9,7 @@ use mathlib.Core.List.{List, ◌++◌}
 use mathlib.Core.Option.{none}
 use lib.Dec.{T, leb, ltb}
 use lib.ListN.{length, take, drop, length-append}
-use lib.Seq.{take_at, length-take-le, sets-eq}
+use lib.Seq.{take_at, length-take-le}
 use lib.IntN.{ℤ}
 use Rattle.numbers.proofs.Tests.{and_left, not-of}
 use Rattle.picture.specs.Refusal.{Filling, refusal}
@@ -20,8 +20,9 @@ use Rattle.picture.specs.Window.{window_legal}
 use Rattle.picture.proofs.Refusals.{pass, no-checks, length-passes, in-limits}
 use Rattle.smoothed.specs.Smoothing.{smoothed, smooth_checks, smooth_call}
 use Rattle.smoothed.proofs.Means.{smooth-writes}
-use Rattle.panel_read.specs.declared.Parsed.{Parsed}
-use Rattle.panel_read.specs.declared.Parsed.TheVariants.{Refused, Taken}
+use Rattle.std.specs.Prelude.{Result, Ok, Err}
+use Rattle.picture.specs.Answers.{number}
+use Rattle.picture.specs.declared.Refusal.{Refusal}
 use Rattle.panel_language.specs.Panel.{panel_size, lines_of, refused_line, parsed, shown, panel}
 use Rattle.panel_read.specs.Read.{drawn}
 use Rattle.panel_print.specs.Print.{Fitted, value_at, LinesRoom}
@@ -61,7 +62,7 @@ module _ (z : Size) (w : Window) (levels : List ℤ) (out : List ℕ) (s : Showa
     pub means-part : cells z ≡ length (take (cells z) (new ++ rest))
     means-part = sym (ap length (take_at new rest (cells z) new-full) ∙ new-full)
 
-    pub lines-room : LinesRoom z.rows z.columns (take (cells z) (new ++ rest)) out
+    pub lines-room : LinesRoom z (take (cells z) (new ++ rest)) out
     lines-room = record {
       some_column = (in-limits z (in_size z s.picture.legal)).some_columns;
       full = sym means-part;
@@ -71,12 +72,12 @@ module _ (z : Size) (w : Window) (levels : List ℤ) (out : List ℕ) (s : Showa
     means-are : take (cells z) (new ++ rest) ≡ smoothed z (take (cells z) levels) w
     means-are = take_at new rest (cells z) new-full ∙ e ∙ ap (λ (f : Filling). f.area) (smooth-writes z (take (cells z) levels) w (take (cells z) area) (smooth-passes (take (cells z) area) (sym (area-part area full))))
 
-    lines-shown : lines_of (value_at z.columns (take (cells z) (new ++ rest))) 0 z.rows z.columns ≡ shown (drawn (Taken z w) levels)
+    lines-shown : lines_of (value_at z.columns (take (cells z) (new ++ rest))) 0 z.rows z.columns ≡ shown (drawn (Ok (z, w)) levels)
     unfolding shown
     lines-shown = ap (λ (m : List ℤ). lines_of (value_at z.columns m) 0 z.rows z.columns) means-are
 
-    pub show-fitted : (newer : List ℕ) (end : ℕ) → Fitted (lines_of (value_at z.columns (take (cells z) (new ++ rest))) 0 z.rows z.columns) out 0 newer end → Fitted (shown (drawn (Taken z w) levels)) out 0 newer end
-    show-fitted newer end f = subst (λ (b : List ℕ). Fitted b out 0 newer end) lines-shown f
+    pub show-fitted : (newer : List ℕ) (end : ℕ) → Fitted (lines_of (value_at z.columns (take (cells z) (new ++ rest))) 0 z.rows z.columns) out newer end → Fitted (shown (drawn (Ok (z, w)) levels)) out newer end
+    show-fitted newer end f = subst (λ (b : List ℕ). Fitted b out newer end) lines-shown f
 
 -- ---- the whole
 module _ (text old : List ℕ) where
@@ -90,26 +91,24 @@ module _ (text old : List ℕ) where
       let e = by-room true (lt-ltb (length old) 28672 h) in
       (sym (ap (λ (r : Rendering). r.count) e), sym (ap (λ (r : Rendering). r.area) e))
 
-  module _ (h : 28672 ≤ length old) (r : Parsed) (levels : List ℤ) (p : parsed text ≡ drawn r levels) where
-    pub legal-show : (z : Size) (w : Window) → r ≡ Taken z w → 4096 ≤ length levels → Showable z w levels old
+  module _ (h : 28672 ≤ length old) (r : Result (Size × Window) Refusal) (levels : List ℤ) (p : parsed text ≡ drawn r levels) where
+    pub legal-show : (z : Size) (w : Window) → r ≡ Ok (z, w) → 4096 ≤ length levels → Showable z w levels old
     legal-show z w is full =
-        let l = parsed-legal text (record { size = z; window = w; levels = take (cells z) levels }) (p ∙ ap (λ (x : Parsed). drawn x levels) is) in
+        let l = parsed-legal text (record { size = z; window = w; levels = take (cells z) levels }) (p ∙ ap (λ (x : Result (Size × Window) Refusal). drawn x levels) is) in
         record { picture = record { legal = l.size; room = full }; window = l.window; room = h }
 
     panel-is : panel text ≡ shown (drawn r levels)
     unfolding panel
     panel-is = ap shown p
 
-    pub panel-rendered : (x : Parsed) → r ≡ x → (new : List ℕ) (end : ℕ) → Fitted (shown (drawn x levels)) old 0 new end → (end ≡ (rendered text old).count) × (new ≡ (rendered text old).area)
+    pub panel-rendered : (x : Result (Size × Window) Refusal) → r ≡ x → (new : List ℕ) (end : ℕ) → Fitted (shown (drawn x levels)) old new end → (end ≡ (rendered text old).count) × (new ≡ (rendered text old).area)
     panel-rendered x is new end f =
         let e = by-room false (le-ltb (length old) 28672 h) in
-        let b : shown (drawn x levels) ≡ panel text = ap (λ (y : Parsed). shown (drawn y levels)) (sym is) ∙ sym panel-is in
-        let g : Fitted (panel text) old 0 new end = subst (λ (l : List ℕ). Fitted l old 0 new end) b f in
-        let n : end ≡ length (panel text) = omega (arith, g.written.place) in
-        let z : 0 + length (panel text) ≡ length (panel text) = omega arith in
-        let a : new ≡ (rendered text old).area = g.written.area ∙ sets-eq (panel text) old 0 (omega (arith, g.inside)) ∙ ap (λ (k : ℕ). panel text ++ drop k old) z ∙ sym (ap (λ (r : Rendering). r.area) e) in
-        (n ∙ sym (ap (λ (r : Rendering). r.count) e), a)
+        let b : shown (drawn x levels) ≡ panel text = ap (λ (y : Result (Size × Window) Refusal). shown (drawn y levels)) (sym is) ∙ sym panel-is in
+        let g : Fitted (panel text) old new end = subst (λ (l : List ℕ). Fitted l old new end) b f in
+        let a : new ≡ (rendered text old).area = g.written.area ∙ ap (λ (k : ℕ). panel text ++ drop k old) g.written.counted ∙ sym (ap (λ (r : Rendering). r.area) e) in
+        (g.written.counted ∙ sym (ap (λ (r : Rendering). r.count) e), a)
 
-pub refused-fitted : (n : ℕ) (levels : List ℤ) (old new : List ℕ) (end : ℕ) → Fitted (refused_line n) old 0 new end → Fitted (shown (drawn (Refused n) levels)) old 0 new end
+pub refused-fitted : (e : Refusal) (levels : List ℤ) (old new : List ℕ) (end : ℕ) → Fitted (refused_line (number e)) old new end → Fitted (shown (drawn (Err e) levels)) old new end
 unfolding shown
-refused-fitted n levels old new end f = f
+refused-fitted e levels old new end f = f

@@ -9,8 +9,13 @@ use mathlib.Core.Option.{Option, none, some}
 use lib.Dec.{T, leb, ltb, eqb, leb→le, ltb→lt, eqb→eq, eqb_refl, lt→ltb, le→leb, nltb→le}
 use lib.ListN.{length}
 use lib.IntN.{ℤ}
+use Rattle.std.proofs.Math.Facts.{leb_no, no_leb}
 use Rattle.numbers.proofs.Tests.{and_left, and_right, and_both, of-not, not-of, same_test}
-use Rattle.picture.specs.Refusal.{Outcome, Check, Filling, ◌when◌, refused, answered, refusal, number_of, outcome, filling, numbers_of}
+use Rattle.picture.specs.Refusal.{Outcome, Check, Filling, ◌when◌, refused, answered, refusal, outcome, filling, numbers_of}
+use Rattle.std.specs.Prelude as code
+use Rattle.std.specs.Prelude.{Result, Ok, Err, IsErrAnd}
+use Rattle.picture.specs.declared.Refusal.{Refusal}
+use Rattle.picture.specs.Answers.{number, refused_by, outcome_of, optional_outcome}
 use Rattle.picture.specs.declared.Window.{Window}
 use Rattle.picture.specs.Window.{window_legal}
 use Rattle.picture.specs.declared.Size.{Size}
@@ -51,36 +56,11 @@ pub pass_all : (before after : List Check) → refusal before ≡ none → refus
 pass_all [] after e = refl
 pass_all ((n when c) ∷ rest) after e = pass n c (rest ++ after) (none-head n c rest e) ∙ pass_all rest after (none_rest n c rest e)
 
--- ---- the first refusal as a number, as code finds it: test by test
-pub number-none : 0 ≡ number_of (refusal [])
-unfolding number_of refusal
-number-none = refl
-
--- a test r that code made, of what a check wants
-pub number-stop : (n : ℕ) (r b : Bool) (rest : List Check) → r ≡ b → not r ≡ true → n ≡ number_of (refusal ((n when not b) ∷ rest))
-unfolding number_of refusal
-number-stop n r true rest e t = absurd (true≢false (sym (rw e at t)))
-number-stop n r false rest e t = refl
-
-pub number-pass : (m n : ℕ) (r b : Bool) (rest : List Check) → r ≡ b → not r ≡ false → m ≡ number_of (refusal rest) → m ≡ number_of (refusal ((n when not b) ∷ rest))
+-- ---- the first refusal, as code finds it: check by check, each a `Result`
+-- no check is left
+pub all-passed : none ≡ refusal []
 unfolding refusal
-number-pass m n r true rest e t h = h
-number-pass m n r false rest e t h = absurd (true≢false (rw e at t))
-
--- a check of which code knows whether its condition holds
-pub number-stop-on : (n : ℕ) (c : Bool) (rest : List Check) → T c → n ≡ number_of (refusal ((n when c) ∷ rest))
-unfolding number_of refusal
-number-stop-on n true rest t = refl
-number-stop-on n false rest t = absurd t
-
-pub number-pass-on : (m n : ℕ) (c : Bool) (rest : List Check) → c ≡ false → m ≡ number_of (refusal rest) → m ≡ number_of (refusal ((n when c) ∷ rest))
-number-pass-on m n c rest e h = h ∙ ap number_of (sym (pass n c rest e))
-
--- a group of checks that refuses, or passes on to the rest
-number-some : (r : Option ℕ) (n : ℕ) → n ≡ number_of r → (n ≡ 0 → ⊥) → r ≡ some n
-unfolding number_of
-number-some none n e h = absurd (h e)
-number-some (some m) n e h = ap some (sym e)
+all-passed = refl
 
 stop-all : (n : ℕ) (before after : List Check) → refusal before ≡ some n → refusal (before ++ after) ≡ some n
 unfolding refusal
@@ -88,27 +68,59 @@ stop-all n [] after e = cc
 stop-all n ((m when true) ∷ rest) after e = e
 stop-all n ((m when false) ∷ rest) after e = stop-all n rest after e
 
-pub number-before : (n : ℕ) (before after : List Check) → n ≡ number_of (refusal before) → (n ≡ 0 → ⊥) → n ≡ number_of (refusal (before ++ after))
-unfolding number_of
-number-before n before after e h = rw (stop-all n before after (number-some (refusal before) n e h))
+-- a group of checks that refuses, and one that is passed
+pub refuses-here : (r : Result Unit Refusal) (e : Refusal) (before after : List Check) → some (number e) ≡ refusal before → IsErrAnd r (λ y. y ≡ e) → refused_by r ≡ refusal (before ++ after)
+refuses-here (Ok u) e before after h q = absurd q
+refuses-here (Err y) e before after h q = rw q (sym (stop-all (number e) before after (sym h)))
 
--- no check bears the number 0, so 0 means that the call is taken
-abbrev pub numbered : List Check → Bool
-numbered [] = true
-numbered ((n when c) ∷ rest) = ltb 0 n && numbered rest
+pub passes-here : (n : Option ℕ) (before after : List Check) → none ≡ refusal before → n ≡ refusal after → n ≡ refusal (before ++ after)
+passes-here n before after h k = k ∙ sym (pass_all before after (sym h))
 
-pub number-0 : (checks : List Check) → T (numbered checks) → number_of (refusal checks) ≡ 0 → refusal checks ≡ none
-unfolding number_of refusal
-number-0 [] t e = refl
-number-0 ((n when true) ∷ rest) t e = absurd (omega (arith, ltb→lt 0 n (and_left (ltb 0 n) (numbered rest) t)))
-number-0 ((n when false) ∷ rest) t e = number-0 rest (and_right (ltb 0 n) (numbered rest) t) e
+-- a single check, by a test s of what it wants
+pub require-sound : (n : ℕ) (b : Bool) → b ≡ true → none ≡ refusal ((n when not b) ∷ [])
+unfolding refusal
+require-sound n true t = refl
+require-sound n false t = cc
 
-pub number-after : (m : ℕ) (before after : List Check) → T (numbered before) → number_of (refusal before) ≡ 0 → m ≡ number_of (refusal after) → m ≡ number_of (refusal (before ++ after))
-number-after m before after t e h = h ∙ ap number_of (sym (pass_all before after (number-0 before t e)))
+pub require-unsound : (n : ℕ) (b : Bool) → b ≡ false → some n ≡ refusal ((n when not b) ∷ [])
+unfolding refusal
+require-unsound n true t = cc
+require-unsound n false t = refl
 
--- a call whose first refusal is n, not 0
-pub number-refused : (n : ℕ) (checks : List Check) → n ≡ number_of (refusal checks) → (n ≡ 0 → ⊥) → refusal checks ≡ some n
-number-refused n checks e h = number-some (refusal checks) n e h
+pub sound : (n : ℕ) (s b : Bool) → s ≡ b → none ≡ refusal ((n when not s) ∷ []) → T b
+sound n s b e h = rw (sym e) (of-not s (none-head n (not s) [] (sym h)))
+
+-- a check that code found unsound, by whatever test
+pub unsound : (n : ℕ) (s : Bool) (m : ℕ) → some m ≡ refusal ((n when not s) ∷ []) → T (not s) × (m ≡ n)
+unfolding refusal
+unsound n true m h = cc
+unsound n false m h = (tt, cc)
+
+pub stop-here : (r : Result Unit Refusal) (e : Refusal) (n : ℕ) (c : Bool) (rest : List Check) → T c → number e ≡ n → IsErrAnd r (λ y. y ≡ e) → refused_by r ≡ refusal ((n when c) ∷ rest)
+stop-here (Ok u) e n c rest t k q = absurd q
+stop-here (Err y) e n c rest t k q = rw (q, k) (sym (stop n c rest t))
+
+pub line-refuses : (r : Result Unit Refusal) (e : Refusal) (n : ℕ) (s b : Bool) (rest : List Check) → s ≡ b → some (number e) ≡ refusal ((n when not s) ∷ []) → IsErrAnd r (λ y. y ≡ e) → refused_by r ≡ refusal ((n when not b) ∷ rest)
+line-refuses r e n s b rest t h q = rw (sym t) (refuses-here r e ((n when not s) ∷ []) rest h q)
+
+pub line-passes : (m : Option ℕ) (n : ℕ) (s b : Bool) (rest : List Check) → s ≡ b → none ≡ refusal ((n when not s) ∷ []) → m ≡ refusal rest → m ≡ refusal ((n when not b) ∷ rest)
+line-passes m n s b rest t h k = rw (sym t) (passes-here m ((n when not s) ∷ []) rest h k)
+
+pub line-last : (m : Option ℕ) (n : ℕ) (s b : Bool) → s ≡ b → m ≡ refusal ((n when not s) ∷ []) → m ≡ refusal ((n when not b) ∷ [])
+line-last m n s b t h = rw (sym t) h
+
+-- check 5 wants a plane up to 5
+plane-above : (p : ℕ) → not (leb p 5) ≡ ltb 5 p
+plane-above p = same_test (not (leb p 5)) (ltb 5 p) (λ t. lt→ltb 5 p (leb_no t)) (λ t. no_leb (ltb→lt 5 p t))
+
+pub plane-refuses : (r : Result Unit Refusal) (e : Refusal) (p : ℕ) (rest : List Check) → some (number e) ≡ refusal ((5 when not (leb p 5)) ∷ []) → IsErrAnd r (λ y. y ≡ e) → refused_by r ≡ refusal ((5 when ltb 5 p) ∷ rest)
+plane-refuses r e p rest h q = rw (sym (plane-above p)) (refuses-here r e ((5 when not (leb p 5)) ∷ []) rest h q)
+
+pub plane-passes : (m : Option ℕ) (p : ℕ) (rest : List Check) → none ≡ refusal ((5 when not (leb p 5)) ∷ []) → m ≡ refusal rest → m ≡ refusal ((5 when ltb 5 p) ∷ rest)
+plane-passes m p rest h k = rw (sym (plane-above p)) (passes-here m ((5 when not (leb p 5)) ∷ []) rest h k)
+
+pub plane-last : (m : Option ℕ) (p : ℕ) → m ≡ refusal ((5 when not (leb p 5)) ∷ []) → m ≡ refusal ((5 when ltb 5 p) ∷ [])
+plane-last m p h = rw (sym (plane-above p)) h
 
 -- a call that is taken passes both groups
 pub none_before : (before after : List Check) → refusal (before ++ after) ≡ none → refusal before ≡ none
@@ -120,6 +132,15 @@ pub none_after : (before after : List Check) → refusal (before ++ after) ≡ n
 none_after before after e = sym (pass_all before after (none_before before after e)) ∙ e
 
 -- ---- the answer
+-- an `Err` that the code passes on says what its number says
+pub answers-refusal : {A : Type 0} (r : Result A Refusal) (e : Refusal) (o : Outcome A) → IsErrAnd r (λ y. y ≡ e) → refused (number e) ≡ o → outcome_of r ≡ o
+answers-refusal (Ok a) e o q h = absurd q
+answers-refusal (Err y) e o q h = rw q h
+
+pub optional-refusal : {A : Type 0} (r : Result (code.Option A) Refusal) (e : Refusal) (o : Outcome (Option A)) → IsErrAnd r (λ y. y ≡ e) → refused (number e) ≡ o → optional_outcome r ≡ o
+optional-refusal (Ok a) e o q h = absurd q
+optional-refusal (Err y) e o q h = rw q h
+
 pub outcome-none : {A : Type 0} (r : Option ℕ) (a : A) → r ≡ none → outcome r a ≡ answered a
 unfolding outcome
 outcome-none none a e = refl
@@ -239,10 +260,10 @@ direct-answers x i j e hi hj =
     ∙ pass 6 (not (ltb i z.rows && ltb j z.columns)) [] (cell-passes z i j hi hj)
     ∙ no-checks)
 
--- the direct call that code refused, and the one that it took
-pub direct-refused : (x : Inputs) (i j n : ℕ) → n ≡ number_of (refusal (direct_checks x i j)) → (n ≡ 0 → ⊥) → refused n ≡ direct_call x i j
+-- the direct call that is turned down, and the one that is taken
+pub direct-refused : (x : Inputs) (i j n : ℕ) → refusal (direct_checks x i j) ≡ some n → refused n ≡ direct_call x i j
 unfolding direct_call
-direct-refused x i j n e h = sym (outcome-some (refusal (direct_checks x i j)) (direct_sum x i j) n (number-refused n (direct_checks x i j) e h))
+direct-refused x i j n e = sym (outcome-some (refusal (direct_checks x i j)) (direct_sum x i j) n e)
 
 pub record Inside (z : Size) (i j : ℕ) : Type 0 where
   pub row : i < z.rows
@@ -253,10 +274,9 @@ cell-inside z i j e =
     let t = of-not (ltb i z.rows && ltb j z.columns) e in
     record { row = ltb→lt i z.rows (and_left (ltb i z.rows) (ltb j z.columns) t); column = ltb→lt j z.columns (and_right (ltb i z.rows) (ltb j z.columns) t) }
 
-pub direct-taken : (x : Inputs) (i j n : ℕ) → n ≡ number_of (refusal (direct_checks x i j)) → n ≡ 0 → accepted x × Inside x.source.size i j
-direct-taken x i j n e h =
-    let z = x.source.size in
-    let taken = number-0 (direct_checks x i j) tt (sym e ∙ h) in (
+pub direct-taken : (x : Inputs) (i j : ℕ) → refusal (direct_checks x i j) ≡ none → accepted x × Inside x.source.size i j
+direct-taken x i j taken =
+    let z = x.source.size in (
       none_before (input_checks x) (check6 z i j ∷ []) taken,
       cell-inside z i j (none-head 6 (not (ltb i z.rows && ltb j z.columns)) [] (none_after (input_checks x) (check6 z i j ∷ []) taken)),
     )

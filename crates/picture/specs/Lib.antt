@@ -6,3 +6,4 @@ pub mod Conditions
 pub mod Direct
 pub mod Offsets
 pub mod Answers
+pub mod Given

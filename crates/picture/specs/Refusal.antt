@@ -18,11 +18,6 @@ unfoldable pub refusal : List Check → Option ℕ
 refusal [] = none
 refusal ((n when c) ∷ rest) = elim c [ true ↦ some n | false ↦ refusal rest ]
 
--- the same as a number: 0 for none
-unfoldable pub number_of : Option ℕ → ℕ
-number_of none = 0
-number_of (some n) = n
-
 -- the answer of a call with these checks, and this result where none of them holds
 unfoldable pub outcome : {A : Type 0} → Option ℕ → A → Outcome A
 outcome (some n) a = refused n

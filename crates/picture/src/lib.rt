@@ -1,6 +1,9 @@
 // The picture, its window, and two pictures under a shift: their types. What they mean stands in specs/.
 #![tactic(auto)]
 
+ghost use Rattle.std.specs.Prelude.{◌≡◌};
+ghost use Rattle.picture.specs.Answers.{number};
+
 // "A picture has 1 to 256 rows and 1 to 1,024 columns."
 #[derive(Clone, Copy)]
 pub struct Size {
@@ -30,15 +33,54 @@ pub struct Shift {
     pub right: i32,
 }
 
-// The answer of a call that gives a sum, and of one that fills an area.
+// Two pictures of a size, a shift and a plane: what building a table takes.
 #[derive(Clone, Copy)]
-pub enum SumAnswer {
-    Refused(u32),
-    Sum(i64),
+pub struct Source<'a> {
+    pub size: Size,
+    pub f: &'a [i16],
+    pub g: &'a [i16],
+    pub shift: Shift,
+    pub plane: u32,
 }
 
+// "The inputs are the pictures with their size, the window, the shift and the plane"
 #[derive(Clone, Copy)]
-pub enum FillAnswer {
-    Refused(u32),
-    Done,
+pub struct Inputs<'a> {
+    pub source: Source<'a>,
+    pub window: Window,
+}
+
+// Why a call is turned down: the lines of document 01's table of refusals.
+#[derive(Clone, Copy, Debug, PartialEq, Eq)]
+pub enum Refusal {
+    Size, // 1: rows or columns beyond limits
+    Length, // 2: a picture's length is not rows times columns
+    Window, // 3: shape not 1 to 3, or window numbers other than its shape allows
+    Shift, // 4: shift beyond limits
+    Plane, // 5: plane above 5
+    Cell, // 6: cell outside the picture
+    Position, // 7: position above rows, or request above rows minus position
+    Area, // 8: table, work or output area of another length
+    Sums, // 9: sums impossible
+    Text, // 10: panel's text malformed
+}
+
+// The number of a refusal in the table: "Only the number comes back".
+impl From<Refusal> for u32 {
+    ghost from_gives = { λ refusal n. n ≡ number refusal };
+
+    fn from(refusal: Refusal) -> u32 {
+        match refusal {
+            Refusal::Size => 1,
+            Refusal::Length => 2,
+            Refusal::Window => 3,
+            Refusal::Shift => 4,
+            Refusal::Plane => 5,
+            Refusal::Cell => 6,
+            Refusal::Position => 7,
+            Refusal::Area => 8,
+            Refusal::Sums => 9,
+            Refusal::Text => 10,
+        }
+    }
 }

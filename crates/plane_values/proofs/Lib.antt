@@ -1,1 +1,2 @@
 pub mod ByPlane
+pub mod Filled

@@ -10,11 +10,7 @@ ghost use Rattle.picture.specs.Picture.{plane_value};
 pub fn fill(out: &mut [i64], value: i64)
     ensures { out.new ≡ tabulate (length out.old) (λ k. value) }
 {
-    let mut k = 0;
-    while k < out.len() {
-        out[k] = value;
-        k += 1;
-    }
+    out.fill(value);
 }
 
 // Levels as numbers of 64 bits.
@@ -22,10 +18,8 @@ fn widen(levels: &[i16], out: &mut [i64])
     requires { length levels.now ≡ length out.old }
     ensures { out.new ≡ tabulate (length out.old) (λ k. get_or levels.now k (pos 0)) }
 {
-    let mut k = 0;
-    while k < out.len() {
+    for k in 0..out.len() {
         out[k] = levels[k] as i64;
-        k += 1;
     }
 }
 
@@ -34,10 +28,8 @@ fn multiply(a: &[i16], b: &[i16], out: &mut [i64])
     requires { (length a.now ≡ length out.old) × (length b.now ≡ length out.old) }
     ensures { out.new ≡ tabulate (length out.old) (λ k. get_or a.now k (pos 0) *ℤ get_or b.now k (pos 0)) }
 {
-    let mut k = 0;
-    while k < out.len() {
+    for k in 0..out.len() {
         out[k] = (a[k] as i32 * b[k] as i32) as i64;
-        k += 1;
     }
 }
 

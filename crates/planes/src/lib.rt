@@ -4,11 +4,12 @@
 
 ghost use Rattle.std.specs.Prelude.{◌≡◌, ◌+◌, length};
 ghost use Rattle.numbers.specs.Grid.{tabulate};
-ghost use Rattle.picture.specs.Picture.{source, plane_at};
+ghost use Rattle.picture.specs.Picture.{plane_at};
+ghost use Rattle.picture.specs.Given.{source_of};
 ghost use Rattle.planes.specs.Parts.{padded_value, PaddedAsked, row_value, RowAsked, PartAsked};
 
 use overlaps::Overlap;
-use picture::{Shift, Size};
+use picture::Source;
 use plane_values::{fill, values};
 
 // The same from place lo on, with zeros before and behind.
@@ -51,23 +52,14 @@ fn row_part(
 }
 
 // The cells (row, first), (row, first + 1), .. of the plane, as many as out has room for.
-pub fn part(
-    size: Size,
-    f: &[i16],
-    g: &[i16],
-    shift: Shift,
-    plane: u32,
-    row: usize,
-    first: usize,
-    out: &mut [i64],
-)
-    requires { PartAsked size f.now g.now row first out.old }
-    ensures { out.new ≡ tabulate (length out.old) (λ k. plane_at (source size f.now g.now shift plane) row (first + k)) }
+pub fn part(source: &Source<'_>, row: usize, first: usize, out: &mut [i64])
+    requires { PartAsked source.now.size source.now.f.now source.now.g.now row first out.old }
+    ensures { out.new ≡ tabulate (length out.old) (λ k. plane_at (source_of source.now) row (first + k)) }
 {
-    let rows = size.rows;
-    let columns = size.columns;
-    let down = shift.down;
-    let right = shift.right;
+    let rows = source.size.rows;
+    let columns = source.size.columns;
+    let down = source.shift.down;
+    let right = source.shift.right;
     let counting = overlaps::overlap_of(rows, down);
     let top = counting.first;
     let bottom = counting.end;
@@ -85,9 +77,9 @@ pub fn part(
     let at = (other + (row - top)) * columns;
     let until = at + columns;
     row_part(
-        plane,
-        &f[lo..hi],
-        &g[at..until],
+        source.plane,
+        &source.f[lo..hi],
+        &source.g[at..until],
         overlaps::overlap_of(columns, right),
         first,
         out,

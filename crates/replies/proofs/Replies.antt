@@ -1,13 +1,10 @@
 -- What a call of the C interface returns, case by case: the status, and what stands behind the result pointers.
 -- Assumes nothing.
 use mathlib.Core.Path.{◌≡◌, sym, ap, ◌∙◌}
-use Prim.Native.Nat.{ℕ, ◌≤◌}
+use Prim.Native.Nat.{ℕ}
 use lib.IntN.{ℤ, pos}
-use mir.Syntax.{w32}
-use mir.Val.{to_z}
 use Rattle.picture.specs.Refusal.{Outcome, refused, answered}
 use Rattle.replies.specs.Reply.{Reply, with_value, without_value, status, result_or, reply}
-use Rattle.replies.proofs.Numbers.{small-kept}
 
 -- status s, and `new` where `old` stood
 abbrev pub Returns : {B : Type 0} → ℤ → (new old : B) → Reply B → Type 0
@@ -23,9 +20,9 @@ module _ {B : Type 0} (old : B) (r : Reply B) where
   without-value s e = (sym (ap status e), sym (ap (result_or old) e))
 
 module _ {A B : Type 0} (of : A → Reply B) (o : Outcome A) (old : B) where
-  pub refused-returns : (n : ℕ) → n ≤ 10 → o ≡ refused n → Returns (to_z w32 n) old old (reply of o)
+  pub refused-returns : (n : ℕ) → o ≡ refused n → Returns (pos n) old old (reply of o)
   unfolding reply
-  refused-returns n h e = without-value old (reply of o) (to_z w32 n) (ap (reply of) e ∙ ap without_value (sym (small-kept h)))
+  refused-returns n e = without-value old (reply of o) (pos n) (ap (reply of) e)
 
   -- an answer with no value
   pub none-returns : (a : A) (s : ℤ) → of a ≡ without_value s → o ≡ answered a → Returns s old old (reply of o)

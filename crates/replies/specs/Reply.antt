@@ -1,6 +1,6 @@
 -- What a call of the C interface hands back: its status, and what stands behind its result pointers.
 -- Assumes nothing.
-use Rattle.std.specs.Prelude.{ℕ, ◌≤◌, ◌≡◌, false, ℤ, pos, negsuc, Float}
+use Rattle.std.specs.Prelude.{ℕ, false, ℤ, pos, negsuc, Float}
 use Rattle.std.proofs.Math.Option.{Option, none, some}
 use Rattle.std.specs.Float.{fin}
 use Rattle.picture.specs.Refusal.{Outcome, refused, answered}
@@ -30,10 +30,6 @@ unfoldable pub reply : {A B : Type 0} → (A → Reply B) → Outcome A → Repl
 reply of (refused n) = without_value (pos n)
 reply of (answered a) = of a
 
--- what is refused, is refused by a number of at most 10, so that it goes into a status
-abbrev pub Small : {A : Type 0} → Outcome A → Type 0
-Small o = (n : ℕ) → o ≡ refused n → n ≤ 10
-
 -- ---- answers that may have no value, each with a status of its own
 abbrev pub empty_status : ℤ
 empty_status = negsuc 0
@@ -48,10 +44,14 @@ nowhere_status = negsuc 2
 abbrev pub sums : (n s t a b p : ℤ) → Sums
 sums n s t a b p = record { n = n; s = s; t = t; a = a; b = b; p = p }
 
+-- an answer that may be none, which has this status
+abbrev pub of_option : {A : Type 0} → ℤ → Option A → Reply A
+of_option s none = without_value s
+of_option s (some a) = with_value a
+
 -- "Mean, variance and deviation answer Empty when N = 0": `none` is Empty
 abbrev pub of_whole : Option ℤ → Reply ℤ
-of_whole none = without_value empty_status
-of_whole (some m) = with_value m
+of_whole = of_option empty_status
 
 -- "Empty if N = 0; Flat if Vf or Vg is 0; otherwise" a number
 abbrev pub of_coefficient : Coefficient → Reply ℤ
@@ -61,8 +61,7 @@ of_coefficient (coefficients.value c) = with_value c
 
 -- "the first cell in row order whose voice answer is Steady, or None": `none` is Nowhere
 abbrev pub of_cell : Option Cell → Reply Cell
-of_cell none = without_value nowhere_status
-of_cell (some c) = with_value c
+of_cell = of_option nowhere_status
 
 -- ---- voices
 abbrev pub steady_kind : ℕ

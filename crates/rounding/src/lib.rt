@@ -24,22 +24,12 @@ pub fn nearest(x: i64, d: u64) -> i64
     quotient
 }
 
-// The largest d with d²·q ≤ v, by halving the numbers up to 32,768.
+// The largest d with d²·q ≤ v: the whole root of v / q, which is of 31 bits.
 pub fn whole_root(v: u64, q: u64) -> u64
     requires { Ratio v q }
     ensures { result ≡ root_over v q }
 {
-    let mut low: u64 = 0;
-    let mut high: u64 = 32769;
-    while low + 1 < high {
-        let middle = (low + high) / 2;
-        if middle * middle * q <= v {
-            low = middle;
-        } else {
-            high = middle;
-        }
-    }
-    low
+    u64::from(((v / q) as u32).isqrt())
 }
 
 // m over 32,768, exactly.

@@ -6,19 +6,23 @@ use mathlib.Core.List.{List, [], ◌∷◌, ◌++◌}
 use mathlib.Core.Option.{Option, none, some}
 use Prim.Native.Nat.{ℕ, ◌+◌, ◌-◌, ◌*◌, ◌≤◌, ◌<◌}
 use native.Mathlib.Omega.{arith}
-use lib.Dec.{T, ltb, eqb, lt→ltb, eqb→eq, nltb→le}
+use lib.Dec.{T, leb, ltb, eqb, lt→ltb, leb→le, eqb→eq, nltb→le}
+use Rattle.std.proofs.Math.Facts.{leb_no}
+use Rattle.std.specs.Prelude.{Result, IsErrAnd}
+use Rattle.picture.specs.declared.Refusal.{Refusal}
+use Rattle.picture.specs.Answers.{number, refused_by}
 use lib.IntN.{ℤ}
 use lib.ListN.{length}
 use borrow.Author.Tests.{le-ltb}
 use Rattle.numbers.proofs.Tests.{off, not-of, of-not, or-false-left, or-false-right}
-use Rattle.picture.specs.Refusal.{Outcome, refused, answered, refusal, number_of}
+use Rattle.picture.specs.Refusal.{Outcome, Check, ◌when◌, refused, answered, refusal}
 use Rattle.picture.specs.Window.{shape_of}
 use Rattle.picture.specs.Picture.{Inputs, plane_at}
 use Rattle.picture.specs.Conditions.{input_checks, accepted, check7, check8}
-use Rattle.picture.proofs.Refusals.{none_before, none_after, none-head, none_rest, number-0, number-refused}
+use Rattle.picture.proofs.Refusals.{none_before, none_after, none-head, none_rest, unsound, stop-here, pass, sound}
 use Rattle.session.specs.Rows.{RowOutcome, Strip, strip, row_checks, row_result, row_call}
 
--- 7, by the position first
+-- 7, by the position first, as code makes it: a check for each half
 or_left : (a b : Bool) → T a → T (a || b)
 or_left true b t = tt
 or_left false b t = absurd t
@@ -27,21 +31,30 @@ or_right : (a b : Bool) → T b → T (a || b)
 or_right true b t = tt
 or_right false b t = t
 
-pub seven-position : (rows position request : ℕ) → rows < position → T (ltb rows position || ltb (rows - position) request)
-seven-position rows position request h = or_left (ltb rows position) (ltb (rows - position) request) (lt→ltb rows position h)
+module _ (rows position request : ℕ) where
+  abbrev seven : Bool
+  seven = ltb rows position || ltb (rows - position) request
 
-pub seven-request : (rows position request : ℕ) → rows - position < request → T (ltb rows position || ltb (rows - position) request)
-seven-request rows position request h = or_right (ltb rows position) (ltb (rows - position) request) (lt→ltb (rows - position) request h)
+  pub seven-position : (r : Result Unit Refusal) (e : Refusal) (rest : List Check) → some (number e) ≡ refusal ((7 when not (leb position rows)) ∷ []) → IsErrAnd r (λ y. y ≡ e) →
+      refused_by r ≡ refusal ((7 when (ltb rows position || ltb (rows - position) request)) ∷ rest)
+  seven-position r e rest h q =
+      let u = unsound 7 (leb position rows) (number e) h in
+      stop-here r e 7 seven rest (or_left (ltb rows position) (ltb (rows - position) request) (lt→ltb rows position (leb_no u.0))) u.1 q
 
-pub seven-passes : (rows position request : ℕ) → position ≤ rows → request ≤ rows - position → (ltb rows position || ltb (rows - position) request) ≡ false
-seven-passes rows position request h k = rw (le-ltb rows position h, le-ltb (rows - position) request k)
+  pub seven-request : (r : Result Unit Refusal) (e : Refusal) (rest : List Check) → some (number e) ≡ refusal ((7 when not (leb request (rows - position))) ∷ []) → IsErrAnd r (λ y. y ≡ e) →
+      refused_by r ≡ refusal ((7 when (ltb rows position || ltb (rows - position) request)) ∷ rest)
+  seven-request r e rest h q =
+      let u = unsound 7 (leb request (rows - position)) (number e) h in
+      stop-here r e 7 seven rest (or_right (ltb rows position) (ltb (rows - position) request) (lt→ltb (rows - position) request (leb_no u.0))) u.1 q
 
--- 8
-pub eight-holds : (given wanted : ℕ) → (given ≡ wanted → ⊥) → T (not (eqb given wanted))
-eight-holds given wanted h = lib.Dec.not_T (eqb given wanted) (λ t. h (eqb→eq given wanted t))
+  seven-off : position ≤ rows → request ≤ rows - position → (ltb rows position || ltb (rows - position) request) ≡ false
+  seven-off h k = rw (le-ltb rows position h, le-ltb (rows - position) request k)
 
-pub eight-passes : (given wanted : ℕ) → given ≡ wanted → not (eqb given wanted) ≡ false
-eight-passes given wanted e = rw e (not-of (eqb wanted wanted) (lib.Dec.eqb_refl wanted))
+  pub seven-passes : (m : Option ℕ) (rest : List Check) → none ≡ refusal ((7 when not (leb position rows)) ∷ []) → none ≡ refusal ((7 when not (leb request (rows - position))) ∷ []) → m ≡ refusal rest →
+      m ≡ refusal ((7 when (ltb rows position || ltb (rows - position) request)) ∷ rest)
+  seven-passes m rest h k e =
+      e ∙ sym (pass 7 (ltb rows position || ltb (rows - position) request) rest
+      (seven-off (leb→le position rows (sound 7 _ _ refl h)) (leb→le request (rows - position) (sound 7 _ _ refl k))))
 
 -- what a granted call has
 pub record Granted (x : Inputs) (position request : ℕ) (work output : List ℤ) : Type 0 where
@@ -81,11 +94,8 @@ module _ (x : Inputs) (position request : ℕ) (work output : List ℤ) where
   unfolding row_call row_result
   call-taken e r er = rw (e, row_result, er)
 
-  -- the refusal that code found
-  pub call-number : (n : ℕ) → n ≡ number_of (refusal (row_checks x position request work output)) → (n ≡ 0 → ⊥) →
+  -- a call that is turned down leaves all as it was
+  pub call-refused : (n : ℕ) → refusal (row_checks x position request work output) ≡ some n →
       row_call x position request work output ≡ record { answer = refused n; position = position; work = work; output = output }
   unfolding row_call row_result
-  call-number n e h = rw (number-refused n (row_checks x position request work output) e h, row_result)
-
-  pub call-granted : (n : ℕ) → n ≡ number_of (refusal (row_checks x position request work output)) → n ≡ 0 → refusal (row_checks x position request work output) ≡ none
-  call-granted n e h = number-0 (row_checks x position request work output) tt (sym e ∙ h)
+  call-refused n e = rw (e, row_result)

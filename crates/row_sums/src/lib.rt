@@ -11,11 +11,9 @@ pub fn first_row(columns: usize, table: &mut [i64])
     ensures { FirstRow columns table.old table.new }
 {
     let mut sum = 0i64;
-    let mut j = 0;
-    while j < columns {
+    for j in 0..columns {
         sum = wrapping::wrapping_add(sum, table[j]);
         table[j] = sum;
-        j += 1;
     }
 }
 
@@ -26,12 +24,10 @@ pub fn next_row(columns: usize, start: usize, table: &mut [i64])
 {
     let above = start - columns;
     let mut sum = 0i64;
-    let mut j = 0;
-    while j < columns {
+    for j in 0..columns {
         let at = start + j;
         sum = wrapping::wrapping_add(sum, table[at]);
         let number = wrapping::wrapping_add(table[above + j], sum);
         table[at] = number;
-        j += 1;
     }
 }

@@ -14,10 +14,8 @@ fn levels_total(levels: &[i16]) -> i64
     ensures { result ≡ sum_to (length levels.now) (λ k. get_or levels.now k (pos 0)) }
 {
     let mut s = 0i32;
-    let mut k = 0;
-    while k < levels.len() {
+    for k in 0..levels.len() {
         s += levels[k] as i32;
-        k += 1;
     }
     s as i64
 }
@@ -28,10 +26,8 @@ fn products_total(a: &[i16], b: &[i16]) -> i64
     ensures { result ≡ wrap (sum_to (length a.now) (λ k. get_or a.now k (pos 0) *ℤ get_or b.now k (pos 0))) }
 {
     let mut s = 0i64;
-    let mut k = 0;
-    while k < a.len() {
+    for k in 0..a.len() {
         s = wrapping::wrapping_add(s, machine::product(a[k], b[k]));
-        k += 1;
     }
     s
 }

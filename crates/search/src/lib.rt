@@ -3,68 +3,69 @@
 #![tactic(auto)]
 
 ghost use Rattle.std.specs.Prelude.{◌≡◌};
-ghost use Rattle.picture.specs.Refusal.{answered};
-ghost use Rattle.picture.specs.Picture.{inputs};
+ghost use Rattle.picture.specs.Answers.{option_of};
+ghost use Rattle.picture.specs.Given.{inputs_of};
 ghost use Rattle.steps.specs.Asked.{Checked};
 ghost use Rattle.smoothed.specs.Steady.{first_steady};
-ghost use Rattle.search.specs.Answers.{steady_outcome};
 ghost use Rattle.search.specs.Asked.{SearchRowsAsked};
 
 use blocks::next;
-use picture::{Cell, Shift, Size, Window};
-
-// The answer of the steady search: the number of its refusal, None, or the cell.
-#[derive(Clone, Copy)]
-pub enum SteadyAnswer {
-    Refused(u32),
-    Nowhere,
-    Found(Cell),
-}
+use picture::{Cell, Inputs, Source};
 
 // "the first cell in row order whose voice answer is Steady", 16 rows after the other; counts, totals and squares are room for a row each, n, s and a for 16 rows.
 fn by_blocks(
-    size: Size,
-    f: &[i16],
-    g: &[i16],
-    window: Window,
-    shift: Shift,
+    inputs: &Inputs<'_>,
     counts: &mut [i64],
     totals: &mut [i64],
     squares: &mut [i64],
     n: &mut [i64],
     s: &mut [i64],
     a: &mut [i64],
-) -> SteadyAnswer
-    requires { SearchRowsAsked (inputs size f.now g.now window shift 0) counts.old totals.old squares.old n.old s.old a.old }
-    ensures { steady_outcome result ≡ answered (first_steady (inputs size f.now g.now window shift 0)) }
+) -> Option<Cell>
+    requires { SearchRowsAsked (inputs_of inputs.now) counts.old totals.old squares.old n.old s.old a.old }
+    ensures { option_of result ≡ first_steady (inputs_of inputs.now) }
 {
-    let rows = size.rows;
-    let columns = size.columns;
+    let rows = inputs.source.size.rows;
+    let columns = inputs.source.size.columns;
+    let source = inputs.source;
+    let window = inputs.window;
+    let ones = Inputs {
+        source: Source { plane: 0, ..source },
+        window,
+    };
+    let levels = Inputs {
+        source: Source { plane: 1, ..source },
+        window,
+    };
+    let level_squares = Inputs {
+        source: Source { plane: 3, ..source },
+        window,
+    };
     let mut i = 0;
     while i < rows {
-        next(i, size, f, g, window, shift, 0, counts, n);
-        next(i, size, f, g, window, shift, 1, totals, s);
-        next(i, size, f, g, window, shift, 3, squares, a);
+        next(i, &ones, counts, n);
+        next(i, &levels, totals, s);
+        next(i, &level_squares, squares, a);
         let count = clip::high(i, 15, rows) - i;
         let cell = hearing::first(count, columns, n, s, a);
         let row = cell.row;
         if row < count {
-            return SteadyAnswer::Found(Cell {
+            return Some(Cell {
                 row: i + row,
                 column: cell.column,
             });
         }
         i += count;
     }
-    SteadyAnswer::Nowhere
+    None
 }
 
 // The whole, with the room on the stack.
-pub fn whole(size: Size, f: &[i16], g: &[i16], window: Window, shift: Shift) -> SteadyAnswer
-    requires { Checked (inputs size f.now g.now window shift 0) }
-    ensures { steady_outcome result ≡ answered (first_steady (inputs size f.now g.now window shift 0)) }
+pub fn whole(inputs: &Inputs<'_>) -> Option<Cell>
+    requires { Checked (inputs_of inputs.now) }
+    ensures { option_of result ≡ first_steady (inputs_of inputs.now) }
 {
-    let columns = size.columns;
+    let columns = inputs.source.size.columns;
     let mut counts = [0i64; 1024];
     let mut totals = [0i64; 1024];
     let mut squares = [0i64; 1024];
@@ -73,11 +74,7 @@ pub fn whole(size: Size, f: &[i16], g: &[i16], window: Window, shift: Shift) -> 
     let mut s = [0i64; 16384];
     let mut a = [0i64; 16384];
     by_blocks(
-        size,
-        f,
-        g,
-        window,
-        shift,
+        inputs,
         &mut counts[..columns],
         &mut totals[..columns],
         &mut squares[..columns],

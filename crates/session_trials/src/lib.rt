@@ -1,16 +1,36 @@
 // Row sessions beside the rival's: lists of calls from a fresh session, and from foreign positions and work areas.
 #![tactic(auto)]
 
-use rival::recurrence;
+use picture::Refusal;
+use rival::Given;
 use rival::recurrence::Begun;
-use rows::Moved;
 use std::io;
+use trial_cases::answers::{number, refusal};
 use trial_cases::cases::Case;
-use trial_cases::{cases, places};
+use trial_cases::places;
 use trial_tools::tally::Tally;
-use trial_tools::{areas, random, tally};
+use trial_tools::{areas, random};
 
-pub mod answers; // answers.rt: answers of the row session as numbers
+// How a list of calls asks for rows.
+#[derive(Clone, Copy, Debug, PartialEq, Eq)]
+enum Pattern {
+    One,
+    Two,
+    Three,
+    All,
+    Few, // few of them or none
+    Mixed, // the same, and now and then too many
+}
+
+// All of them with each shape and plane.
+const PATTERNS: [Pattern; 6] = [
+    Pattern::One,
+    Pattern::Two,
+    Pattern::Three,
+    Pattern::All,
+    Pattern::Few,
+    Pattern::Mixed,
+];
 
 // What a call asks for: a request, and the lengths of its work and output areas.
 #[derive(Clone, Copy)]
@@ -26,253 +46,157 @@ struct Stand {
     position: usize,
     work: [i64; 5200],
     out: [i64; 5200],
-    tally: Tally,
 }
 
-// The request of a call, by the pattern of its list: one, two or three rows, all, few of them or none, or too many.
-fn request(pattern: usize, rows: usize, n: u64) -> usize {
-    if pattern == 0 {
-        return 1;
+// The request of a call, by the pattern of its list.
+fn request(pattern: Pattern, rows: usize, n: u64) -> usize {
+    match pattern {
+        Pattern::One => 1,
+        Pattern::Two => 2,
+        Pattern::Three => 3,
+        Pattern::All => rows,
+        Pattern::Few => (n / 16 % 4) as usize,
+        Pattern::Mixed if n / 16 % 4 == 0 => rows.saturating_add(1),
+        Pattern::Mixed => (n / 64 % 6) as usize,
     }
-    if pattern == 1 {
-        return 2;
-    }
-    if pattern == 2 {
-        return 3;
-    }
-    if pattern == 3 {
-        return rows;
-    }
-    if pattern == 4 {
-        return (n / 16 % 4) as usize;
-    }
-    if n / 16 % 4 == 0 {
-        return std::num::wrapping_add_usize(rows, 1);
-    }
-    (n / 64 % 6) as usize
 }
 
-// The areas of a call: of the lengths it wants, and in the mixed lists now and then of others.
-fn ask(c: Case, pattern: usize, n: u64) -> Asked {
-    let rows = request(pattern, c.rows, n);
-    let mut work = c.columns;
-    let mut out = areas::times(rows, c.columns);
-    if pattern >= 4 {
-        if n / 4096 % 7 == 0 {
-            out = std::num::wrapping_add_usize(out, 1);
+// The areas of a call: of the lengths it wants, and in the lists of few rows and the mixed ones now and then of others.
+fn ask(c: Case, pattern: Pattern, n: u64) -> Asked {
+    let request = request(pattern, c.rows, n);
+    let wanted = Asked {
+        request,
+        work: c.columns,
+        out: request.saturating_mul(c.columns),
+    };
+    match (pattern, n / 4096 % 7) {
+        (Pattern::Few | Pattern::Mixed, 0) => Asked {
+            out: wanted.out.saturating_add(1),
+            ..wanted
+        },
+        (Pattern::Few | Pattern::Mixed, 1) => Asked {
+            work: wanted.work.saturating_add(1),
+            ..wanted
+        },
+        _ => wanted,
+    }
+}
+
+// The refusal of a call, none where it is to be granted.
+fn refused(c: Case, position: usize, a: Asked) -> Option<Refusal> {
+    match c.rows.checked_sub(position) {
+        Some(left) if a.request <= left => {
+            let fits = a.work == c.columns && a.out == a.request.saturating_mul(c.columns);
+            (!fits).then_some(Refusal::Area)
         }
-        if n / 4096 % 7 == 1 {
-            work = std::num::wrapping_add_usize(work, 1);
-        }
-    }
-    Asked {
-        request: rows,
-        work,
-        out,
+        _ => Some(Refusal::Position),
     }
 }
 
-// 7 or 8, where the call is to be refused, and else 0.
-fn refusal(c: Case, position: usize, a: Asked) -> u64 {
-    if position > c.rows {
-        return 7;
-    }
-    if a.request > c.rows - position {
-        return 7;
-    }
-    if a.work != c.columns {
-        return 8;
-    }
-    if a.out != areas::times(a.request, c.columns) {
-        return 8;
-    }
-    0
-}
-
-// The answer and the position of a call, beside the rival's.
-fn compare_answer(moved: Moved, position: usize, request: usize, refused: u64, t: Tally) -> Tally {
-    let answer = moved.answer;
-    let seen = t.with_natural(answers::rows_refusal(answer), refused);
-    if refused != 0 {
-        return seen.with_natural(moved.position as u64, position as u64);
-    }
-    let after = std::num::wrapping_add_usize(position, request);
-    seen.with_natural(answers::rows_granted(answer), request as u64)
-        .with_natural(moved.position as u64, after as u64)
-}
-
-// The library's call, and its answer compared.
-fn called(
-    c: Case,
-    f: &[i16],
-    g: &[i16],
-    a: Asked,
-    position: usize,
-    given: [i64; 5200],
-    before: [i64; 5200],
-    t: Tally,
-) -> Stand {
-    let zero = 0;
-    let columns = a.work % 5201;
-    let cells = a.out % 5201;
-    let mut work = given;
-    let mut out = before;
-    let work_area: &mut [i64] = &mut work;
-    let out_area: &mut [i64] = &mut out;
-    let worked: &mut [i64] = &mut work_area[zero..columns];
-    let written: &mut [i64] = &mut out_area[zero..cells];
-    let moved = rows::rows_at(
-        position,
-        cases::size(c),
-        f,
-        g,
-        cases::window(c),
-        cases::shift(c),
-        c.plane,
+// The library's call: its answer, and where it leaves the list.
+fn called(given: Given, a: Asked, before: Stand) -> (Result<usize, Refusal>, Stand) {
+    let Stand {
+        mut position,
+        mut work,
+        mut out,
+    } = before;
+    let columns = a.work.min(5200);
+    let cells = a.out.min(5200);
+    let answer = rows::rows_at(
+        &given.inputs(),
+        &mut position,
         a.request,
-        worked,
-        written,
+        &mut work[..columns],
+        &mut out[..cells],
     );
-    Stand {
-        position: moved.position,
+    let after = Stand {
+        position,
         work,
         out,
-        tally: compare_answer(moved, position, a.request, refusal(c, position, a), t),
+    };
+    (answer, after)
+}
+
+// Where the rival leaves the list after a call of so many rows.
+fn granted(given: Given, fresh: bool, request: usize, before: &Stand) -> Stand {
+    let c = given.case;
+    let position = before.position;
+    let mut after = *before;
+    let end = position.saturating_add(request);
+    after.position = end;
+    if request == 0 {
+        return after;
     }
-}
-
-// Both areas after a call, and one number behind them, beside what they are to hold.
-fn compare(c: Case, after: Stand, work: [i64; 5200], out: [i64; 5200]) -> Stand {
-    let columns = std::num::wrapping_add_usize(c.columns, 1);
-    let cells = std::num::wrapping_add_usize(cases::cells(c), 1);
-    let mut s = after;
-    let ours = s.work;
-    let worked = areas::compare_numbers(columns, &ours, &work, s.tally);
-    let written = s.out;
-    s.tally = areas::compare_numbers(cells, &written, &out, worked);
-    s
-}
-
-// The rival's work area after a call of so many rows.
-fn rival_work(
-    c: Case,
-    f: &[i16],
-    g: &[i16],
-    b: Begun,
-    rows: usize,
-    given: [i64; 5200],
-) -> [i64; 5200] {
-    let last = std::num::wrapping_sub_usize(std::num::wrapping_add_usize(b.position, rows), 1);
-    let columns = c.columns % 5201;
-    let mut work = given;
-    let mut j = 0usize;
-    while j < columns {
-        work[j] = recurrence::work(c, f, g, b, &given, last, j);
-        j += 1;
+    let begun = Begun {
+        given,
+        area: &before.work,
+        fresh,
+        position,
+    };
+    for (j, number) in after.work.iter_mut().enumerate().take(c.columns) {
+        *number = begun.work(end.saturating_sub(1), j);
     }
-    work
-}
-
-// The rival's output area after a call of so many rows, by the work area given.
-fn rival_out(
-    c: Case,
-    f: &[i16],
-    g: &[i16],
-    b: Begun,
-    rows: usize,
-    given: [i64; 5200],
-    before: [i64; 5200],
-) -> [i64; 5200] {
-    let cells = areas::times(rows, c.columns) % 5201;
-    let mut out = before;
-    let mut k = 0usize;
-    while k < cells {
-        let i = std::num::wrapping_add_usize(b.position, places::row_of(c, k));
-        out[k] = recurrence::output(c, f, g, b, &given, i, places::column_of(c, k));
-        k += 1;
+    let cells = request.saturating_mul(c.columns);
+    for (k, number) in after.out.iter_mut().enumerate().take(cells) {
+        let cell = c.cell(k);
+        *number = begun.output(position.saturating_add(cell.row), cell.column);
     }
-    out
+    after
 }
 
-// One call: its answer and position, and both areas afterwards.
-fn call(c: Case, f: &[i16], g: &[i16], fresh: bool, a: Asked, s: Stand) -> Stand {
-    let position = s.position;
-    let given = s.work;
-    let before = s.out;
-    let after = called(c, f, g, a, position, given, before, s.tally);
-    if refusal(c, position, a) != 0 {
-        return compare(c, after, given, before);
-    }
-    if a.request == 0 {
-        return compare(c, after, given, before);
-    }
-    let b = Begun { fresh, position };
-    let work = rival_work(c, f, g, b, a.request, given);
-    let out = rival_out(c, f, g, b, a.request, given, before);
-    compare(c, after, work, out)
+// One call: its answer, the position, and both areas with one number behind them, beside what they are to be.
+fn call(given: Given, fresh: bool, a: Asked, before: Stand, t: Tally) -> (Stand, Tally) {
+    let c = given.case;
+    let (answer, after) = called(given, a, before);
+    let refused = refused(c, before.position, a);
+    let seen = t.with(refusal(answer), number(refused));
+    let (wanted, counted) = match refused {
+        Some(_) => (before, seen),
+        None => (
+            granted(given, fresh, a.request, &before),
+            seen.with(answer.unwrap_or(0), a.request),
+        ),
+    };
+    let compared = counted
+        .with(after.position, wanted.position)
+        .with_first(c.columns.saturating_add(1), &after.work, &wanted.work)
+        .with_first(c.cells().saturating_add(1), &after.out, &wanted.out);
+    (after, compared)
 }
 
-// What the calls of a list have in common.
-#[derive(Clone, Copy)]
-struct Common {
-    case: Case,
-    fresh: bool,
-    pattern: usize,
-    calls: usize,
-}
-
-// A list of calls.
-fn list(l: Common, f: &[i16], g: &[i16], stand: Stand) -> Tally {
-    let calls = l.calls;
-    let c = l.case;
-    let mut s = stand;
-    let mut k = 0usize;
-    while k < calls {
-        let a = ask(c, l.pattern, random::at(c.seed, k));
-        s = call(c, f, g, l.fresh, a, s);
-        k += 1;
-    }
-    s.tally
-}
-
-// A list of calls on areas with foreign contents, begun at position 0 or at any.
-fn session(l: Common, tally: Tally) -> Tally {
-    let zero = 0;
-    let c = l.case;
-    let n = cases::cells(c) % 32769;
-    let f = random::picture(n, c.seed);
-    let g = random::picture(n, random::next(c.seed));
-    let area = areas::foreign(c.seed);
-    let begin = (c.seed / 16 % 32) as usize;
-    let position = if l.fresh { 0 } else { begin };
-    let stand = Stand {
+// A list of calls on areas with foreign contents, begun fresh at position 0 or at any.
+fn session(case: Case, fresh: bool, pattern: Pattern, tally: Tally) -> Tally {
+    let pictures = case.pictures();
+    let given = Given::new(case, &pictures);
+    let area = areas::foreign(1100, case.seed);
+    let position = if fresh {
+        0
+    } else {
+        (case.seed / 16 % 32) as usize
+    };
+    let mut stand = Stand {
         position,
         work: area,
         out: area,
-        tally,
     };
-    list(l, &f[zero..n], &g[zero..n], stand)
-}
-
-// The lists of many cases: every pair of shape and plane, and every pattern.
-fn lists(trials: usize, fresh: bool) -> Tally {
-    let mut t = tally::fresh();
-    let mut k = 0usize;
-    while k < trials {
-        let case = places::session_case(k);
-        let l = Common {
-            case,
-            fresh,
-            pattern: places::pattern(k),
-            calls: std::num::wrapping_add_usize(case.rows, 3),
-        };
-        t = session(l, t);
-        k += 1;
+    let mut t = tally;
+    for k in 0..case.rows.saturating_add(3) {
+        let a = ask(case, pattern, random::at(case.seed, k));
+        let (after, compared) = call(given, fresh, a, stand, t);
+        stand = after;
+        t = compared;
     }
     t
 }
 
+// The lists of many cases: every pair of shape and plane, and every pattern.
+fn lists(trials: usize, fresh: bool) -> Tally {
+    (0..trials).fold(Tally::default(), |t, k| {
+        session(places::session_case(k), fresh, PATTERNS[k / 18 % 6], t)
+    })
+}
+
 pub fn run(rt: &impl Print) -> io::Result<()> {
-    tally::print(rt, b"rows of fresh sessions", lists(108, true))?;
-    tally::print(rt, b"rows of foreign sessions", lists(216, false))
+    println!(rt; "rows of fresh sessions: {}", lists(108, true))?;
+    println!(rt; "rows of foreign sessions: {}", lists(216, false))
 }

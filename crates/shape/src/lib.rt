@@ -1,6 +1,6 @@
 // A legal window: whether it is a rectangle, and how far it goes up and down, and to the sides. With the checks and `reaches`, the only code that knows what a
 // shape is. For callers that have checked the window: each requires that it is legal.
-#![tactic(auto)]
+#![tactic(auto, unfolding(picture::specs::Window::window_legal, picture::specs::Window::shape_of, picture::specs::Window::height, picture::specs::Window::width))]
 
 ghost use Rattle.std.specs.Prelude.{◌≡◌, T};
 ghost use Rattle.picture.specs.Window.{window_legal, shape_of, is_rectangle, height, width};
@@ -12,8 +12,7 @@ pub fn is_rectangle(window: Window) -> bool
     requires { T (window_legal window) }
     ensures { result ≡ is_rectangle (shape_of window) }
 {
-    let shape = window.shape;
-    shape == 1
+    window.shape == 1
 }
 
 // The largest |p|.
@@ -21,13 +20,10 @@ pub fn height(window: Window) -> usize
     requires { T (window_legal window) }
     ensures { result ≡ height (shape_of window) }
 {
-    let shape = window.shape;
-    let first = window.first;
-    let second = window.second;
-    if shape == 3 {
-        return second as usize;
+    match window.shape {
+        3 => window.second.unsigned_abs() as usize,
+        _ => window.first.unsigned_abs() as usize,
     }
-    first as usize
 }
 
 // The largest |q|.
@@ -35,14 +31,11 @@ pub fn width(window: Window) -> usize
     requires { T (window_legal window) }
     ensures { result ≡ width (shape_of window) }
 {
-    let shape = window.shape;
-    let first = window.first;
-    let second = window.second;
-    if shape == 1 {
-        return second as usize;
+    let first = window.first.unsigned_abs() as usize;
+    let second = window.second.unsigned_abs() as usize;
+    match window.shape {
+        1 => second,
+        2 => first,
+        _ => first + second,
     }
-    if shape == 2 {
-        return first as usize;
-    }
-    first as usize + second as usize
 }

@@ -3,19 +3,19 @@
 use mathlib.Core.Path.{◌≡◌, sym}
 use Prim.Native.Nat.{ℕ}
 use mathlib.Core.List.{List}
-use mathlib.Core.Option.{none}
+use mathlib.Core.Option.{none, some}
 use lib.Dec.{eqb, eqb→eq}
 use lib.ListN.{length}
 use lib.IntN.{ℤ}
 use Rattle.numbers.proofs.Tests.{of-not}
-use Rattle.picture.specs.Refusal.{refused, answered, refusal, number_of}
+use Rattle.picture.specs.Refusal.{refused, answered, refusal}
 use Rattle.picture.specs.declared.Shift.{Shift}
 use Rattle.picture.specs.declared.Size.{Size}
 use Rattle.picture.specs.Size.{size_legal, cells}
 use Rattle.picture.specs.declared.Window.{Window}
 use Rattle.picture.specs.Window.{window_legal}
 use Rattle.picture.specs.Picture.{Levels, inputs}
-use Rattle.picture.proofs.Refusals.{none-head, none_rest, number-0, number-refused, outcome-none, outcome-some}
+use Rattle.picture.proofs.Refusals.{none-head, none_rest, outcome-none, outcome-some}
 use Rattle.steps.specs.Asked.{Checked}
 use Rattle.smoothed.specs.Smoothing.{smoothed, smooth_checks, smooth_call}
 use Rattle.smoothed.specs.Steady.{first_steady, steady_checks, steady_call}
@@ -24,13 +24,10 @@ use Rattle.smoothed.proofs.Means.{smooth-writes, smooth-keeps}
 
 -- ---- smoothing
 module _ (z : Size) (f : List ℤ) (w : Window) (out : List ℤ) where
-  pub smooth-refused : (n : ℕ) → n ≡ number_of (refusal (smooth_checks z f w out)) → (n ≡ 0 → ⊥) → record { answer = refused n; area = out } ≡ smooth_call z f w out
-  smooth-refused n e h = sym (smooth-keeps z f w out n (number-refused n (smooth_checks z f w out) e h))
+  pub smooth-refused : (n : ℕ) → refusal (smooth_checks z f w out) ≡ some n → record { answer = refused n; area = out } ≡ smooth_call z f w out
+  smooth-refused n e = sym (smooth-keeps z f w out n e)
 
-  module _ (e : number_of (refusal (smooth_checks z f w out)) ≡ 0) where
-    smooth-taken : refusal (smooth_checks z f w out) ≡ none
-    smooth-taken = number-0 (smooth_checks z f w out) tt e
-
+  module _ (smooth-taken : refusal (smooth_checks z f w out) ≡ none) where
     pub smooth-done : record { answer = answered tt; area = smoothed z f w } ≡ smooth_call z f w out
     smooth-done = sym (smooth-writes z f w out smooth-taken)
 
@@ -53,14 +50,11 @@ module _ (z : Size) (f : List ℤ) (w : Window) (out : List ℤ) where
 
 -- ---- the steady search
 module _ (z : Size) (f g : List ℤ) (w : Window) (d : Shift) where
-  pub steady-refused : (n : ℕ) → n ≡ number_of (refusal (steady_checks z f g w d)) → (n ≡ 0 → ⊥) → refused n ≡ steady_call z f g w d
+  pub steady-refused : (n : ℕ) → refusal (steady_checks z f g w d) ≡ some n → refused n ≡ steady_call z f g w d
   unfolding steady_call
-  steady-refused n e h = sym (outcome-some _ (first_steady (inputs z f g w d 0)) n (number-refused n (steady_checks z f g w d) e h))
+  steady-refused n e = sym (outcome-some _ (first_steady (inputs z f g w d 0)) n e)
 
-  module _ (e : number_of (refusal (steady_checks z f g w d)) ≡ 0) where
-    steady-taken : refusal (steady_checks z f g w d) ≡ none
-    steady-taken = number-0 (steady_checks z f g w d) tt e
-
+  module _ (steady-taken : refusal (steady_checks z f g w d) ≡ none) where
     pub steady-answered : answered (first_steady (inputs z f g w d 0)) ≡ steady_call z f g w d
     unfolding steady_call
     steady-answered = sym (outcome-none _ (first_steady (inputs z f g w d 0)) steady-taken)

@@ -1,133 +1,95 @@
 // Smoothing and the steady search beside the rival's.
 #![tactic(auto)]
 
-ghost use Rattle.std.specs.Prelude.{◌≡◌, length};
-
-use rival::moments;
-use smoothing::SteadyAnswer;
+use picture::Cell;
+use rival::{Given, moments};
 use std::io;
-use trial_cases::cases::Case;
-use trial_cases::{answers, cases, places};
+use trial_cases::cases::{Case, Plane};
+use trial_cases::places;
+use trial_tools::areas;
 use trial_tools::tally::Tally;
-use trial_tools::{areas, random, tally};
 
 // The rival's mean at a cell of one picture.
-fn mean(c: Case, f: &[i16], i: usize, j: usize) -> i64 {
-    let n = rival::plane_sum(c, 0, f, f, i, j);
-    let s = rival::plane_sum(c, 1, f, f, i, j);
+fn mean(given: Given, i: usize, j: usize) -> i64 {
+    let n = given.plane_sum(Plane::One, i, j);
+    let s = given.plane_sum(Plane::F, i, j);
     moments::mean(n, s)
 }
 
-// The smoothed picture at every cell.
-fn compare(c: Case, f: &[i16], out: &[i16], count: usize, tally: Tally) -> Tally {
-    let mut t = tally;
-    let mut k = 0usize;
-    while k < count {
-        let i = places::row(c, k);
-        let j = places::column(c, k);
-        let ours = areas::widened(areas::level(out, areas::place(c.columns, i, j)));
-        t = t.with(ours, mean(c, f, i, j));
-        k += 1;
-    }
-    t
-}
-
-// Room for a smoothed picture.
-fn room() -> [i16; 32768]
-    ensures { 32768 ≡ length result }
-{
-    [0; 32768]
-}
-
-// The picture smoothed.
-fn smooth(c: Case, f: &[i16], t: Tally) -> Tally {
-    let zero = 0;
-    let n = f.len() % 32769;
-    let mut out = room();
-    let area: &mut [i16] = &mut out;
-    let answer = smoothing::smooth(cases::size(c), f, cases::window(c), &mut area[zero..n]);
-    compare(
-        c,
-        f,
-        &out,
-        n,
-        t.with_natural(answers::fill_refusal(answer), 0),
-    )
+// One picture smoothed, and compared at every cell.
+fn smooth(given: Given, t: Tally) -> Tally {
+    let c = given.case;
+    let cells = c.cells().min(32768);
+    let mut out = [0i16; 32768];
+    let answer = smoothing::smooth(c.size(), given.f, c.window(), &mut out[..cells]);
+    let begun = t.with(trial_cases::answers::refusal(answer), 0);
+    (0..cells).fold(begun, |t, k| {
+        let Cell { row: i, column: j } = c.scattered(k);
+        let ours = areas::read(&out, c.place(i, j));
+        t.with(i64::from(ours), mean(given, i, j))
+    })
 }
 
 // Whether the cell is Steady: N is not 0, and Vf is.
-fn is_steady(c: Case, f: &[i16], g: &[i16], i: usize, j: usize) -> bool {
-    let n = rival::plane_sum(c, 0, f, g, i, j);
+fn is_steady(given: Given, cell: Cell) -> bool {
+    let Cell { row: i, column: j } = cell;
+    let n = given.plane_sum(Plane::One, i, j);
     if n == 0 {
         return false;
     }
-    let s = rival::plane_sum(c, 1, f, g, i, j);
-    let a = rival::plane_sum(c, 3, f, g, i, j);
+    let s = given.plane_sum(Plane::F, i, j);
+    let a = given.plane_sum(Plane::SquareF, i, j);
     moments::central(n, a, s, s) == 0
 }
 
 // "the first cell in row order whose voice answer is Steady": its place, or the number of cells.
-fn first_steady(c: Case, cells: usize, f: &[i16], g: &[i16]) -> usize {
-    let mut k = 0usize;
-    while k < cells {
-        if is_steady(c, f, g, places::row_of(c, k), places::column_of(c, k)) {
-            return k;
-        }
-        k += 1;
-    }
-    cells
+fn first_steady(given: Given) -> usize {
+    let c = given.case;
+    (0..c.cells())
+        .find(|k| is_steady(given, c.cell(*k)))
+        .unwrap_or(c.cells())
 }
 
-// The place of the cell that was found in a picture of so many columns, and where there was none, the number of cells.
-fn steady_place(answer: SteadyAnswer, columns: usize, cells: usize) -> u64 {
-    match answer {
-        SteadyAnswer::Refused(_) => 4294967296,
-        SteadyAnswer::Nowhere => cells as u64,
-        SteadyAnswer::Found(cell) => areas::place(columns, cell.row, cell.column) as u64,
-    }
-}
-
-fn steady(c: Case, f: &[i16], g: &[i16], t: Tally) -> Tally {
-    let cells = cases::cells(c);
-    let answer = smoothing::steady(cases::size(c), f, g, cases::window(c), cases::shift(c));
-    let place = steady_place(answer, c.columns, cells);
-    t.with_natural(place, first_steady(c, cells, f, g) as u64)
+// The same of the library; no place at all where it refuses.
+fn steady(given: Given, t: Tally) -> Tally {
+    let c = given.case;
+    let answer = smoothing::steady(c.size(), given.f, given.g, c.window(), c.shift);
+    let place = match answer {
+        Ok(Some(cell)) => c.place(cell.row, cell.column),
+        Ok(None) => c.cells(),
+        Err(_) => 4294967296,
+    };
+    t.with(place, first_steady(given))
 }
 
 // The two tallies of this group.
-#[derive(Clone, Copy)]
+#[derive(Clone, Copy, Default)]
 struct Tallies {
     means: Tally,
     steady: Tally,
 }
 
 // One case: its pictures made; one picture alone is smoothed.
-fn of_case(c: Case, t: Tallies) -> Tallies {
-    let zero = 0;
-    let n = cases::cells(c) % 32769;
-    let f = random::picture(n, c.seed);
-    let g = random::picture(n, random::next(c.seed));
+fn of_case(case: Case, t: Tallies) -> Tallies {
+    let pictures = case.pictures();
+    let given = Given::new(case, &pictures);
+    let alone = Given {
+        case: case.unshifted(),
+        f: given.f,
+        g: given.f,
+    };
     Tallies {
-        means: smooth(cases::unshifted(c), &f[zero..n], t.means),
-        steady: steady(c, &f[zero..n], &g[zero..n], t.steady),
+        means: smooth(alone, t.means),
+        steady: steady(given, t.steady),
     }
 }
 
 fn of_cases(trials: usize) -> Tallies {
-    let mut t = Tallies {
-        means: tally::fresh(),
-        steady: tally::fresh(),
-    };
-    let mut k = 0usize;
-    while k < trials {
-        t = of_case(places::case(k), t);
-        k += 1;
-    }
-    t
+    (0..trials).fold(Tallies::default(), |t, k| of_case(places::case(k), t))
 }
 
 pub fn run(rt: &impl Print) -> io::Result<()> {
     let t = of_cases(288);
-    tally::print(rt, b"smoothed cells", t.means)?;
-    tally::print(rt, b"steady searches", t.steady)
+    println!(rt; "smoothed cells: {}", t.means)?;
+    println!(rt; "steady searches: {}", t.steady)
 }

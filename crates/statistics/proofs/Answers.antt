@@ -8,15 +8,21 @@ use native.Mathlib.Omega.{arith}
 use borrow.Author.Tests.{eq-eqb, ne_eqb, eqb-true, eqb-false}
 use lib.Dec.{eqb}
 use lib.IntN.{nat_abs}
-use Rattle.picture.specs.Refusal.{refused, answered}
+use Rattle.picture.specs.Refusal.{Outcome, refused, answered}
 use Rattle.statistics.specs.declared.Sums.{Sums}
 use Rattle.statistics.specs.declared.CentralMoments.{CentralMoments}
-use Rattle.statistics.specs.declared.CentralAnswer.{CentralAnswer}
-use Rattle.statistics.specs.declared.CentralAnswer.TheVariants.{Refused, Empty, Given}
 use Rattle.statistics.specs.SixSums.{Vf, Vg, covariance, impossible, unless9, count, no_cell}
 use Rattle.statistics.specs.Moments.{unless_empty}
 use Rattle.statistics.specs.Central.{central_moments, central_call}
-use Rattle.statistics.specs.Answers.{central_outcome}
+use Rattle.std.specs.Prelude as code
+use Rattle.std.specs.Prelude.{Result, Ok, Err, IsErrAnd}
+use Rattle.picture.specs.declared.Refusal.{Refusal}
+use Rattle.picture.specs.Answers.{number, option_of}
+use Rattle.statistics.specs.declared.Voice as declared
+use Rattle.statistics.specs.declared.Coefficient as correlation
+use Rattle.statistics.specs.Voice.{Voice}
+use Rattle.statistics.specs.Coefficient.{Coefficient}
+use Rattle.statistics.specs.Answers.{voice_outcome, coefficient_outcome}
 use Rattle.statistics.proofs.Bounds.{Possible, possible-has, answers, refuses}
 
 -- ---- "Mean, variance and deviation answer Empty when N = 0"
@@ -61,30 +67,39 @@ pub record NoCell (z : Sums) : Type 0 where
 pub passes_on : {A : Type 0} (z : Sums) (n : ℕ) (r : A) → Impossible z n → refused n ≡ unless9 z r
 passes_on z n r f = ap refused f.is ∙ sym (refuses z r f.holds)
 
+-- an `Err` that the code passes on
+pub voice-refusal : (r : Result declared.Voice Refusal) (e : Refusal) (o : Outcome Voice) → IsErrAnd r (λ y. y ≡ e) → refused (number e) ≡ o → voice_outcome r ≡ o
+voice-refusal (Ok a) e o q h = absurd q
+voice-refusal (Err y) e o q h = rw q h
+
+pub coefficient-refusal : (r : Result correlation.Coefficient Refusal) (e : Refusal) (o : Outcome Coefficient) → IsErrAnd r (λ y. y ≡ e) → refused (number e) ≡ o → coefficient_outcome r ≡ o
+coefficient-refusal (Ok a) e o q h = absurd q
+coefficient-refusal (Err y) e o q h = rw q h
+
 -- the sums are possible, with N not 0, and m is theirs
 pub record Taken (z : Sums) (m : CentralMoments) : Type 0 where
   pub possible : Possible z
   pub some_cell : count z ≡ 0 → ⊥
   pub is : m ≡ central_moments z
 
-pub refused-tells : (z : Sums) (r : CentralAnswer) (n : ℕ) → central_outcome r ≡ central_call z → r ≡ Refused n → Impossible z n
-refused-tells z r n e q = go (case-of z) (sym (ap central_outcome q) ∙ e)
+pub refused-tells : (z : Sums) (n : ℕ) → refused n ≡ central_call z → Impossible z n
+refused-tells z n e = go (case-of z) e
   where
     go : Case z → refused n ≡ central_call z → Impossible z n
     go (refusing i c) e = record { holds = i; is = cc }
     go (empty p k c) e = never (cc)
     go (given p k c) e = never (cc)
 
-pub empty-tells : (z : Sums) (r : CentralAnswer) → central_outcome r ≡ central_call z → r ≡ Empty → NoCell z
-empty-tells z r e q = go (case-of z) (sym (ap central_outcome q) ∙ e)
+pub empty-tells : (z : Sums) (r : code.Option CentralMoments) → answered (option_of r) ≡ central_call z → r ≡ code.None → NoCell z
+empty-tells z r e q = go (case-of z) (sym (ap (λ (x : code.Option CentralMoments). answered (option_of x)) q) ∙ e)
   where
     go : Case z → answered none ≡ central_call z → NoCell z
     go (refusing i c) e = never (cc)
     go (empty p k c) e = record { possible = p; is = k }
     go (given p k c) e = never (cc)
 
-pub given-tells : (z : Sums) (r : CentralAnswer) (m : CentralMoments) → central_outcome r ≡ central_call z → r ≡ Given m → Taken z m
-given-tells z r m e q = go (case-of z) (sym (ap central_outcome q) ∙ e)
+pub given-tells : (z : Sums) (r : code.Option CentralMoments) (m : CentralMoments) → answered (option_of r) ≡ central_call z → r ≡ code.Some m → Taken z m
+given-tells z r m e q = go (case-of z) (sym (ap (λ (x : code.Option CentralMoments). answered (option_of x)) q) ∙ e)
   where
     go : Case z → answered (some m) ≡ central_call z → Taken z m
     go (refusing i c) e = never (cc)

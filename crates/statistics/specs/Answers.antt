@@ -1,40 +1,29 @@
--- What an answer says: the paper's number and values for each of its cases.
+-- What an answer says: the paper's number and values for each of its cases. Where it may be Empty alone, `picture.specs.Answers.optional_outcome` says it.
 -- Assumes nothing.
-use Rattle.std.proofs.Math.Option.{Option, none, some}
-use Rattle.std.specs.Prelude.{ℤ}
+use Rattle.std.specs.Prelude.{Result, Ok, Err}
 use Rattle.picture.specs.Refusal.{Outcome, refused, answered}
-use Rattle.statistics.specs.declared.CentralMoments.{CentralMoments}
-use Rattle.statistics.specs.declared.CentralAnswer as central
-use Rattle.statistics.specs.declared.WholeAnswer as whole
+use Rattle.picture.specs.declared.Refusal.{Refusal}
+use Rattle.picture.specs.Answers.{number}
 use Rattle.statistics.specs.declared.Voice as declared
-use Rattle.statistics.specs.declared.VoiceAnswer as answer
-use Rattle.statistics.specs.declared.CoefficientAnswer as correlation
+use Rattle.statistics.specs.declared.Coefficient as correlation
 use Rattle.statistics.specs.Voice.{Voice, empty, steady, grainy}
 use Rattle.statistics.specs.Coefficient as coefficients
 use Rattle.statistics.specs.Coefficient.{Coefficient}
-
--- in the first two, `none` is Empty
-abbrev pub central_outcome : central.CentralAnswer → Outcome (Option CentralMoments)
-central_outcome (central.TheVariants.Refused n) = refused n
-central_outcome central.TheVariants.Empty = answered none
-central_outcome (central.TheVariants.Given m) = answered (some m)
-
-abbrev pub whole_outcome : whole.WholeAnswer → Outcome (Option ℤ)
-whole_outcome (whole.TheVariants.Refused n) = refused n
-whole_outcome whole.TheVariants.Empty = answered none
-whole_outcome (whole.TheVariants.Whole w) = answered (some w)
 
 abbrev pub voice_of : declared.Voice → Voice
 voice_of declared.TheVariants.Empty = empty
 voice_of (declared.TheVariants.Steady level) = steady level
 voice_of (declared.TheVariants.Grainy grain) = grainy grain.level grain.spread
 
-abbrev pub voice_outcome : answer.VoiceAnswer → Outcome Voice
-voice_outcome (answer.TheVariants.Refused n) = refused n
-voice_outcome (answer.TheVariants.Heard voice) = answered (voice_of voice)
+abbrev pub voice_outcome : Result declared.Voice Refusal → Outcome Voice
+voice_outcome (Ok voice) = answered (voice_of voice)
+voice_outcome (Err r) = refused (number r)
 
-abbrev pub coefficient_outcome : correlation.CoefficientAnswer → Outcome Coefficient
-coefficient_outcome (correlation.TheVariants.Refused n) = refused n
-coefficient_outcome correlation.TheVariants.Empty = answered coefficients.empty
-coefficient_outcome correlation.TheVariants.Flat = answered coefficients.flat
-coefficient_outcome (correlation.TheVariants.Value c) = answered (coefficients.value c)
+abbrev pub coefficient_of : correlation.Coefficient → Coefficient
+coefficient_of correlation.TheVariants.Empty = coefficients.empty
+coefficient_of correlation.TheVariants.Flat = coefficients.flat
+coefficient_of (correlation.TheVariants.Value c) = coefficients.value c
+
+abbrev pub coefficient_outcome : Result correlation.Coefficient Refusal → Outcome Coefficient
+coefficient_outcome (Ok c) = answered (coefficient_of c)
+coefficient_outcome (Err r) = refused (number r)

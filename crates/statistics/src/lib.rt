@@ -21,22 +21,6 @@ pub struct CentralMoments {
     pub c: i64,
 }
 
-// The central moments of six sums, Empty where N = 0, or the number of the refusal.
-#[derive(Clone, Copy)]
-pub enum CentralAnswer {
-    Refused(u32),
-    Empty,
-    Given(CentralMoments),
-}
-
-// A whole number, Empty where N = 0, or the number of the refusal.
-#[derive(Clone, Copy)]
-pub enum WholeAnswer {
-    Refused(u32),
-    Empty,
-    Whole(i64),
-}
-
 // "Grainy with a level and a spread"
 #[derive(Clone, Copy)]
 pub struct Grain {
@@ -52,17 +36,9 @@ pub enum Voice {
     Grainy(Grain),
 }
 
-// A voice, or the number of the refusal.
-#[derive(Clone, Copy)]
-pub enum VoiceAnswer {
-    Refused(u32),
-    Heard(Voice),
-}
-
 // "Empty if N = 0; Flat if Vf or Vg is 0; otherwise the sign of C times the largest whole c"
 #[derive(Clone, Copy)]
-pub enum CoefficientAnswer {
-    Refused(u32),
+pub enum Coefficient {
     Empty,
     Flat,
     Value(i64),

@@ -1,68 +1,67 @@
-// Answers of the statistics in parts: a refusal's number, 0 where the sums were taken, and what was given.
-use statistics::{CoefficientAnswer, Voice, VoiceAnswer, WholeAnswer};
+// Answers of the statistics by their kinds and values.
+use picture::Refusal;
+use statistics::{Coefficient, Voice};
 
-// A whole number or a coefficient: its kind is 0 a refusal and 1 Empty; then 2 a whole number, or 2 Flat and 3 a coefficient.
-#[derive(Clone, Copy)]
-pub struct Given {
-    pub kind: u64,
-    pub refusal: u64,
-    pub value: i64,
+// What is given, by its kind: 1 Empty, and then the others in the order in which document 01 names them.
+pub trait Kinds: Drop {
+    fn kind(&self) -> u64;
 }
 
-fn parts(kind: u64, refusal: u64, value: i64) -> Given {
-    Given {
-        kind,
-        refusal,
-        value,
+impl Kinds for Option<i64> {
+    fn kind(&self) -> u64 {
+        match self {
+            None => 1,
+            Some(_) => 2,
+        }
     }
 }
 
-pub fn whole(answer: WholeAnswer) -> Given {
+impl Kinds for Coefficient {
+    fn kind(&self) -> u64 {
+        match self {
+            Coefficient::Empty => 1,
+            Coefficient::Flat => 2,
+            Coefficient::Value(_) => 3,
+        }
+    }
+}
+
+impl Kinds for Voice {
+    fn kind(&self) -> u64 {
+        match self {
+            Voice::Empty => 1,
+            Voice::Steady(_) => 2,
+            Voice::Grainy(_) => 3,
+        }
+    }
+}
+
+// An answer by its kind, 0 a refusal.
+pub fn kind<T: Kinds>(answer: Result<T, Refusal>) -> u64 {
     match answer {
-        WholeAnswer::Refused(number) => parts(0, number as u64, 0),
-        WholeAnswer::Empty => parts(1, 0, 0),
-        WholeAnswer::Whole(whole) => parts(2, 0, whole),
+        Ok(given) => given.kind(),
+        Err(_) => 0,
     }
 }
 
-pub fn coefficient(answer: CoefficientAnswer) -> Given {
+// The whole number of an answer, 0 where it has none.
+pub fn number(answer: Result<Option<i64>, Refusal>) -> i64 {
+    answer.ok().flatten().unwrap_or(0)
+}
+
+// The coefficient of an answer, 0 where it has none.
+pub fn value(answer: Result<Coefficient, Refusal>) -> i64 {
     match answer {
-        CoefficientAnswer::Refused(number) => parts(0, number as u64, 0),
-        CoefficientAnswer::Empty => parts(1, 0, 0),
-        CoefficientAnswer::Flat => parts(2, 0, 0),
-        CoefficientAnswer::Value(value) => parts(3, 0, value),
+        Ok(Coefficient::Value(value)) => value,
+        _ => 0,
     }
 }
 
-// A voice answer in parts: 0 a refusal, 1 Empty, 2 Steady, 3 Grainy; its level and its spread, 0 where it has none.
-#[derive(Clone, Copy)]
-pub struct Heard {
-    pub kind: u64,
-    pub refusal: u64,
-    pub level: f32,
-    pub spread: f32,
-}
-
-fn voice_parts(kind: u64, refusal: u64, level: f32, spread: f32) -> Heard {
-    Heard {
-        kind,
-        refusal,
-        level,
-        spread,
-    }
-}
-
-fn heard_voice(voice: Voice) -> Heard {
-    match voice {
-        Voice::Empty => voice_parts(1, 0, 0.0, 0.0),
-        Voice::Steady(level) => voice_parts(2, 0, level, 0.0),
-        Voice::Grainy(grain) => voice_parts(3, 0, grain.level, grain.spread),
-    }
-}
-
-pub fn voice(answer: VoiceAnswer) -> Heard {
+// The level of an answer and its spread, 0 where it has none.
+pub fn parts(answer: Result<Voice, Refusal>) -> (f32, f32) {
     match answer {
-        VoiceAnswer::Refused(number) => voice_parts(0, number as u64, 0.0, 0.0),
-        VoiceAnswer::Heard(voice) => heard_voice(voice),
+        Ok(Voice::Steady(level)) => (level, 0.0),
+        Ok(Voice::Grainy(grain)) => (grain.level, grain.spread),
+        _ => (0.0, 0.0),
     }
 }

@@ -3,52 +3,36 @@
 ghost use Rattle.std.specs.Prelude.{◌≡◌, pos, ◌+ℤ◌, length, get_or};
 ghost use Rattle.numbers.specs.Grid.{tabulate};
 ghost use Rattle.numbers.specs.Wrap.{wrap};
-ghost use Rattle.picture.specs.Picture.{source, plane_at};
+ghost use Rattle.picture.specs.Picture.{plane_at};
+ghost use Rattle.picture.specs.Given.{source_of};
 ghost use Rattle.session.specs.Rows.{enter_leave};
 ghost use Rattle.steps.specs.Asked.{RowAsked};
 
-use picture::{Shift, Size};
+use exchange_loops::add_each;
+use picture::Source;
 
 // From row i to i+1, at half height d: the row d rows below enters the sums, and the row d rows above leaves them.
-pub fn add_gain(
-    size: Size,
-    f: &[i16],
-    g: &[i16],
-    shift: Shift,
-    plane: u32,
-    i: usize,
-    d: usize,
-    sums: &mut [i64],
-)
-    requires { RowAsked size f.now g.now i d sums.old }
-    ensures { sums.new ≡ tabulate size.columns (λ j. wrap (get_or sums.old j (pos 0) +ℤ enter_leave size (plane_at (source size f.now g.now shift plane)) i d j)) }
+pub fn add_gain(source: &Source<'_>, i: usize, d: usize, sums: &mut [i64])
+    requires { RowAsked source.now.size source.now.f.now source.now.g.now i d sums.old }
+    ensures { sums.new ≡ tabulate source.now.size.columns (λ j. wrap (get_or sums.old j (pos 0) +ℤ enter_leave source.now.size (plane_at (source_of source.now)) i d j)) }
 {
-    let rows = size.rows;
+    let rows = source.size.rows;
     let enter = i + 1 + d;
     if i < d {
-        change::exchange(size, f, g, shift, plane, enter, rows, sums);
+        change::exchange(source, enter, rows, sums);
         return;
     }
     let leave = i - d;
-    change::exchange(size, f, g, shift, plane, enter, leave, sums);
+    change::exchange(source, enter, leave, sums);
 }
 
 // The same alone: in `row` the cells that enter less those that leave.
-pub fn gain(
-    size: Size,
-    f: &[i16],
-    g: &[i16],
-    shift: Shift,
-    plane: u32,
-    i: usize,
-    d: usize,
-    row: &mut [i64],
-)
-    requires { RowAsked size f.now g.now i d row.old }
-    ensures { row.new ≡ tabulate size.columns (λ j. wrap (enter_leave size (plane_at (source size f.now g.now shift plane)) i d j)) }
+pub fn gain(source: &Source<'_>, i: usize, d: usize, row: &mut [i64])
+    requires { RowAsked source.now.size source.now.f.now source.now.g.now i d row.old }
+    ensures { row.new ≡ tabulate source.now.size.columns (λ j. wrap (enter_leave source.now.size (plane_at (source_of source.now)) i d j)) }
 {
     plane_values::fill(row, 0);
-    add_gain(size, f, g, shift, plane, i, d, row);
+    add_gain(source, i, d, row);
 }
 
 // A row is added to the work area.
@@ -56,9 +40,5 @@ pub fn add(work: &mut [i64], row: &[i64])
     requires { length row.now ≡ length work.old }
     ensures { work.new ≡ tabulate (length work.old) (λ j. wrap (get_or work.old j (pos 0) +ℤ get_or row.now j (pos 0))) }
 {
-    let mut j = 0;
-    while j < work.len() {
-        work[j] = wrapping::wrapping_add(work[j], row[j]);
-        j += 1;
-    }
+    add_each(|j| row[j], work);
 }

@@ -1,98 +1,74 @@
 // The cases of document 01's list that are not starred: sizes and windows at their limits and just beyond.
 use crate::direct_sums;
+use picture::{Cell, Refusal, Shift};
+use rival::Given;
 use std::io;
-use trial_cases::cases::Case;
-use trial_cases::{answers, cases};
+use trial_cases::answers;
+use trial_cases::cases::{Case, Plane, Shape};
 use trial_tools::tally::Tally;
-use trial_tools::{random, tally};
 
-// A case, and the number by which it is to be refused, 0 where it is to be taken.
-#[derive(Clone, Copy)]
-struct Limit {
-    case: Case,
-    refusal: u64,
-}
+// A line of the list: rows, columns, the window's shape and its two numbers, and the refusal, none where the case is to be taken.
+type Line = (usize, usize, Shape, usize, usize, Option<Refusal>);
 
 // "256 rows pass, 0 and 257 give 1", and so for columns; "radius 127 passes, 128 gives 3", and so for the numbers of the other
-// shapes. A line a case: rows, columns, shape, its two numbers, and the refusal.
-fn line(k: usize) -> [usize; 6] {
-    match k {
-        0 => [1, 1, 1, 1, 1, 0],
-        1 => [256, 1, 1, 1, 1, 0],
-        2 => [256, 128, 1, 1, 1, 0],
-        3 => [0, 1, 1, 1, 1, 1],
-        4 => [257, 1, 1, 1, 1, 1],
-        5 => [1, 1024, 1, 1, 1, 0],
-        6 => [32, 1024, 1, 1, 1, 0],
-        7 => [1, 0, 1, 1, 1, 1],
-        8 => [0, 0, 1, 1, 1, 1],
-        9 => [1, 1025, 1, 1, 1, 1],
-        10 => [256, 128, 2, 127, 0, 0],
-        11 => [256, 128, 2, 128, 0, 3],
-        12 => [256, 128, 2, 127, 1, 3],
-        13 => [256, 128, 1, 127, 127, 0],
-        14 => [256, 128, 1, 128, 127, 3],
-        15 => [256, 128, 1, 127, 128, 3],
-        16 => [256, 128, 3, 64, 63, 0],
-        17 => [256, 128, 3, 64, 64, 3],
-        18 => [256, 128, 3, 0, 127, 0],
-        19 => [256, 128, 3, 127, 0, 0],
-        20 => [256, 128, 3, 128, 0, 3],
-        21 => [256, 128, 0, 1, 1, 3],
-        _ => [256, 128, 4, 1, 1, 3],
-    }
-}
+// shapes.
+const LINES: [Line; 23] = [
+    (1, 1, Shape::Rectangle, 1, 1, None),
+    (256, 1, Shape::Rectangle, 1, 1, None),
+    (256, 128, Shape::Rectangle, 1, 1, None),
+    (0, 1, Shape::Rectangle, 1, 1, Some(Refusal::Size)),
+    (257, 1, Shape::Rectangle, 1, 1, Some(Refusal::Size)),
+    (1, 1024, Shape::Rectangle, 1, 1, None),
+    (32, 1024, Shape::Rectangle, 1, 1, None),
+    (1, 0, Shape::Rectangle, 1, 1, Some(Refusal::Size)),
+    (0, 0, Shape::Rectangle, 1, 1, Some(Refusal::Size)),
+    (1, 1025, Shape::Rectangle, 1, 1, Some(Refusal::Size)),
+    (256, 128, Shape::Diamond, 127, 0, None),
+    (256, 128, Shape::Diamond, 128, 0, Some(Refusal::Window)),
+    (256, 128, Shape::Diamond, 127, 1, Some(Refusal::Window)),
+    (256, 128, Shape::Rectangle, 127, 127, None),
+    (256, 128, Shape::Rectangle, 128, 127, Some(Refusal::Window)),
+    (256, 128, Shape::Rectangle, 127, 128, Some(Refusal::Window)),
+    (256, 128, Shape::Hexagon, 64, 63, None),
+    (256, 128, Shape::Hexagon, 64, 64, Some(Refusal::Window)),
+    (256, 128, Shape::Hexagon, 0, 127, None),
+    (256, 128, Shape::Hexagon, 127, 0, None),
+    (256, 128, Shape::Hexagon, 128, 0, Some(Refusal::Window)),
+    (256, 128, Shape::Unknown(0), 1, 1, Some(Refusal::Window)),
+    (256, 128, Shape::Unknown(4), 1, 1, Some(Refusal::Window)),
+];
 
-fn listed(k: usize) -> Limit {
-    let n = line(k);
+// One direct sum of one picture alone, at the middle cell: its refusal, and its sum where there is none.
+fn tried(line: Line, t: Tally) -> Tally {
+    let (rows, columns, shape, first, second, refusal) = line;
     let case = Case {
-        rows: n[0],
-        columns: n[1],
-        shape: (n[2] % 8) as u32,
-        first: n[3],
-        second: n[4],
-        down: 255,
-        right: 1023,
-        plane: 1,
+        rows,
+        columns,
+        shape,
+        first,
+        second,
+        shift: Shift { down: 0, right: 0 },
+        plane: Plane::F,
         seed: 77,
     };
-    Limit {
-        case,
-        refusal: n[5] as u64,
-    }
-}
-
-// One direct sum, at the middle cell: its refusal, and its sum where there is none.
-fn at_middle(x: Limit, f: &[i16], t: Tally) -> Tally {
-    let c = x.case;
-    let row = c.rows / 2;
-    let column = c.columns / 2;
-    let answer = direct_sums::given(c, f, f, row, column);
-    let seen = t.with_natural(answers::sum_refusal(answer), x.refusal);
-    if x.refusal != 0 {
+    let pictures = case.pictures();
+    let f = pictures.f();
+    let given = Given { case, f, g: f };
+    let cell = Cell {
+        row: rows / 2,
+        column: columns / 2,
+    };
+    let answer = direct_sums::sum(given, cell);
+    let seen = t.with(answers::refusal(answer), answers::number(refusal));
+    if refusal.is_some() {
         return seen;
     }
-    seen.with(answers::sum_given(answer), rival::sum(c, f, f, row, column))
-}
-
-fn tried(x: Limit, t: Tally) -> Tally {
-    let zero = 0;
-    let c = x.case;
-    let n = cases::cells(c) % 32769;
-    let f = random::picture(n, c.seed);
-    at_middle(x, &f[zero..n], t)
-}
-
-fn all(limits: usize) -> Tally {
-    let mut t = tally::fresh();
-    let mut k = 0usize;
-    while k < limits {
-        t = tried(listed(k), t);
-        k += 1;
-    }
-    t
+    seen.with(answer.unwrap_or(0), given.sum(cell.row, cell.column))
 }
 
 pub fn run(rt: &impl Print) -> io::Result<()> {
-    tally::print(rt, b"limits", all(23))
+    let all = LINES
+        .iter()
+        .fold(Tally::default(), |t, line| tried(*line, t));
+    println!(rt; "limits: {all}")
 }

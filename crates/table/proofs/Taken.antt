@@ -3,37 +3,34 @@
 use mathlib.Core.Path.{◌≡◌, sym, ◌∙◌, ap}
 use Prim.Native.Nat.{ℕ}
 use mathlib.Core.List.{List}
-use mathlib.Core.Option.{none}
+use mathlib.Core.Option.{none, some}
 use lib.Dec.{T, eqb, eqb→eq}
 use lib.ListN.{length}
 use lib.IntN.{ℤ}
 use Rattle.numbers.proofs.Tests.{of-not}
-use Rattle.picture.specs.Refusal.{refused, answered, refusal, number_of}
+use Rattle.picture.specs.Refusal.{refused, answered, refusal}
 use Rattle.picture.specs.declared.Size.{Size}
 use Rattle.picture.specs.Size.{size_legal, cells}
 use Rattle.picture.specs.declared.Window.{Window}
 use Rattle.picture.specs.Window.{window_legal}
 use Rattle.picture.specs.Picture.{Source, Levels}
 use Rattle.picture.specs.Conditions.{picture_checks}
-use Rattle.picture.proofs.Refusals.{cell-inside, none-head, none_rest, number-0, number-refused, outcome-none, outcome-some, filling-none, filling-some}
+use Rattle.picture.proofs.Refusals.{cell-inside, none-head, none_rest, outcome-none, outcome-some, filling-none, filling-some}
 use Rattle.cumulative.specs.Table.{table_of, build_checks, build_call, read_table, read_checks, read_call}
 use Rattle.fill.specs.Fill.{Buildable}
 use Rattle.corners.specs.Corners.{ReadableAt}
 
 -- pictures that pass have a legal size
-pub pictures-legal : (z : Size) (f g : List ℤ) → number_of (refusal (picture_checks z f g)) ≡ 0 → T (size_legal z)
-pictures-legal z f g e = of-not (size_legal z) (none-head 1 _ _ (number-0 (picture_checks z f g) tt e))
+pub pictures-legal : (z : Size) (f g : List ℤ) → refusal (picture_checks z f g) ≡ none → T (size_legal z)
+pictures-legal z f g e = of-not (size_legal z) (none-head 1 _ _ e)
 
 -- ---- building
 module _ (x : Source) (t : List ℤ) where
-  pub build-refused : (n : ℕ) → n ≡ number_of (refusal (build_checks x t)) → (n ≡ 0 → ⊥) → record { answer = refused n; area = t } ≡ build_call x t
+  pub build-refused : (n : ℕ) → refusal (build_checks x t) ≡ some n → record { answer = refused n; area = t } ≡ build_call x t
   unfolding build_call
-  build-refused n e h = sym (filling-some _ t (table_of x) n (number-refused n (build_checks x t) e h))
+  build-refused n e = sym (filling-some _ t (table_of x) n e)
 
-  module _ (e : number_of (refusal (build_checks x t)) ≡ 0) where
-    build-taken : refusal (build_checks x t) ≡ none
-    build-taken = number-0 (build_checks x t) tt e
-
+  module _ (build-taken : refusal (build_checks x t) ≡ none) where
     pub build-done : record { answer = answered tt; area = table_of x } ≡ build_call x t
     unfolding build_call
     build-done = sym (filling-none _ t (table_of x) build-taken)
@@ -56,14 +53,11 @@ module _ (x : Source) (t : List ℤ) where
 
 -- ---- reading
 module _ (z : Size) (t : List ℤ) (w : Window) (i j : ℕ) where
-  pub read-refused : (n : ℕ) → n ≡ number_of (refusal (read_checks z t w i j)) → (n ≡ 0 → ⊥) → refused n ≡ read_call z t w i j
+  pub read-refused : (n : ℕ) → refusal (read_checks z t w i j) ≡ some n → refused n ≡ read_call z t w i j
   unfolding read_call
-  read-refused n e h = sym (outcome-some _ (read_table z t w i j) n (number-refused n (read_checks z t w i j) e h))
+  read-refused n e = sym (outcome-some _ (read_table z t w i j) n e)
 
-  module _ (e : number_of (refusal (read_checks z t w i j)) ≡ 0) where
-    read_taken : refusal (read_checks z t w i j) ≡ none
-    read_taken = number-0 (read_checks z t w i j) tt e
-
+  module _ (read_taken : refusal (read_checks z t w i j) ≡ none) where
     pub read-answered : (x : ℤ) → x ≡ read_table z t w i j → answered x ≡ read_call z t w i j
     unfolding read_call
     read-answered x ex = ap answered ex ∙ sym (outcome-none _ (read_table z t w i j) read_taken)

@@ -1,23 +1,15 @@
-// Answers that are a sum or a filled area, as numbers: a refusal's number, 0 where the call was taken, and what it gave.
-use picture::{FillAnswer, SumAnswer};
+// Answers as numbers: that of a refusal, and 0 where there is none.
+use picture::Refusal;
 
-pub fn sum_refusal(answer: SumAnswer) -> u64 {
-    match answer {
-        SumAnswer::Refused(number) => number as u64,
-        SumAnswer::Sum(_) => 0,
-    }
+// The number by which a call was refused, 0 where it was taken.
+pub fn refusal<T: Drop>(answer: Result<T, Refusal>) -> u64 {
+    number(answer.err())
 }
 
-pub fn sum_given(answer: SumAnswer) -> i64 {
-    match answer {
-        SumAnswer::Refused(_) => 0,
-        SumAnswer::Sum(sum) => sum,
-    }
-}
-
-pub fn fill_refusal(answer: FillAnswer) -> u64 {
-    match answer {
-        FillAnswer::Refused(number) => number as u64,
-        FillAnswer::Done => 0,
+// The number by which a call is to be refused, 0 where it is to be taken.
+pub fn number(refusal: Option<Refusal>) -> u64 {
+    match refusal {
+        Some(refusal) => u64::from(u32::from(refusal)),
+        None => 0,
     }
 }

@@ -1,66 +1,151 @@
-// A case of the trials: what a call is given, with natural numbers throughout; a shift is raised by its limit.
-use picture::{Shift, Size, Window};
+// A case of the trials: what a call is given.
+use picture::{Cell, Shift, Size, Window};
+use trial_tools::random;
+
+// The shape of a window, and a number that is none's.
+#[derive(Clone, Copy, Debug, PartialEq, Eq)]
+pub enum Shape {
+    Rectangle,
+    Diamond,
+    Hexagon,
+    Unknown(u32),
+}
+
+// The number that a call takes for it.
+impl From<Shape> for u32 {
+    fn from(shape: Shape) -> u32 {
+        match shape {
+            Shape::Rectangle => 1,
+            Shape::Diamond => 2,
+            Shape::Hexagon => 3,
+            Shape::Unknown(number) => number,
+        }
+    }
+}
+
+// "plane 0, one; 1, f(m, n); 2, g(m+u, n+v); 3 and 4, the squares of those two; 5, their product"
+#[derive(Clone, Copy, Debug, PartialEq, Eq)]
+pub enum Plane {
+    One,
+    F,
+    G,
+    SquareF,
+    SquareG,
+    Product,
+}
+
+// The number that a call takes for it.
+impl From<Plane> for u32 {
+    fn from(plane: Plane) -> u32 {
+        match plane {
+            Plane::One => 0,
+            Plane::F => 1,
+            Plane::G => 2,
+            Plane::SquareF => 3,
+            Plane::SquareG => 4,
+            Plane::Product => 5,
+        }
+    }
+}
 
 #[derive(Clone, Copy)]
 pub struct Case {
     pub rows: usize,
     pub columns: usize,
-    pub shape: u32,
+    pub shape: Shape,
     pub first: usize,
     pub second: usize,
-    pub down: usize, // u + 255
-    pub right: usize, // v + 1,023
-    pub plane: u32,
+    pub shift: Shift,
+    pub plane: Plane,
     pub seed: u64, // of its pictures
 }
 
-// One picture alone: "the case g = f with shift (0, 0)".
-pub fn unshifted(case: Case) -> Case {
-    let mut c = case;
-    c.down = 255;
-    c.right = 1023;
-    c
+// A number of a window as a call takes it.
+fn window_number(n: usize) -> i32 {
+    i32::try_from(n).unwrap_or(i32::MAX)
 }
 
-pub fn with_size(case: Case, rows: usize, columns: usize) -> Case {
-    let mut c = case;
-    c.rows = rows;
-    c.columns = columns;
-    c
-}
+impl Case {
+    // One picture alone: "the case g = f with shift (0, 0)".
+    pub fn unshifted(self) -> Case {
+        Case {
+            shift: Shift { down: 0, right: 0 },
+            ..self
+        }
+    }
 
-// n - by, of numbers below 4,096.
-fn lowered(n: usize, by: usize) -> i32 {
-    if n >= by {
-        ((n - by) % 4096) as i32
-    } else {
-        !(((by - n - 1) % 4096) as i32)
+    pub fn with_size(self, rows: usize, columns: usize) -> Case {
+        Case {
+            rows,
+            columns,
+            ..self
+        }
+    }
+
+    pub fn size(self) -> Size {
+        Size {
+            rows: self.rows,
+            columns: self.columns,
+        }
+    }
+
+    pub fn window(self) -> Window {
+        Window {
+            shape: self.shape.into(),
+            first: window_number(self.first),
+            second: window_number(self.second),
+        }
+    }
+
+    // The number of its cells.
+    pub fn cells(self) -> usize {
+        self.rows.wrapping_mul(self.columns)
+    }
+
+    // The place of a cell in its pictures.
+    pub fn place(self, row: usize, column: usize) -> usize {
+        row.wrapping_mul(self.columns).wrapping_add(column)
+    }
+
+    // The k-th cell in row order.
+    pub fn cell(self, k: usize) -> Cell {
+        Cell {
+            row: k.checked_div(self.columns).unwrap_or(0),
+            column: k.checked_rem(self.columns).unwrap_or(0),
+        }
+    }
+
+    // The k-th cell in an order that soon reaches all parts of the picture: each of them once, where their number has no factor 7919.
+    pub fn scattered(self, k: usize) -> Cell {
+        let place = k.wrapping_mul(7919).checked_rem(self.cells());
+        self.cell(place.unwrap_or(0))
+    }
+
+    // Its two pictures.
+    pub fn pictures(self) -> Pictures {
+        let cells = self.cells().min(32768);
+        Pictures {
+            f: random::picture(cells, self.seed),
+            g: random::picture(cells, random::next(self.seed)),
+            cells,
+        }
     }
 }
 
-pub fn size(case: Case) -> Size {
-    Size {
-        rows: case.rows,
-        columns: case.columns,
-    }
+// The two pictures of a case: as many levels of each area as there are cells.
+#[derive(Clone, Copy)]
+pub struct Pictures {
+    f: [i16; 32768],
+    g: [i16; 32768],
+    cells: usize,
 }
 
-pub fn window(case: Case) -> Window {
-    Window {
-        shape: case.shape,
-        first: (case.first % 4096) as i32,
-        second: (case.second % 4096) as i32,
+impl Pictures {
+    pub fn f(&self) -> &[i16] {
+        &self.f[..self.cells.min(32768)]
     }
-}
 
-pub fn shift(case: Case) -> Shift {
-    Shift {
-        down: lowered(case.down, 255),
-        right: lowered(case.right, 1023),
+    pub fn g(&self) -> &[i16] {
+        &self.g[..self.cells.min(32768)]
     }
-}
-
-// The number of its cells.
-pub fn cells(case: Case) -> usize {
-    trial_tools::areas::times(case.rows, case.columns)
 }

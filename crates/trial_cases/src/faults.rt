@@ -1,5 +1,5 @@
-// Calls on a picture of 5 rows and 7 columns, and their faults by the numbers of document 01's table, four forms of each.
-use picture::{Cell, Shift, Size, Window};
+// Calls on a picture of 5 rows and 7 columns, and their faults by the lines of document 01's table, four forms of each.
+use picture::{Cell, Refusal, Shift, Size, Window};
 
 #[derive(Clone, Copy)]
 pub struct Call {
@@ -16,125 +16,235 @@ pub struct Call {
     pub out: usize,
 }
 
-// Two faults of a call, the other one made last: each a number from 1 to 8, 0 none, and a form from 0 to 3.
+// A fault of a call: the refusal that it asks for, and its form, a place in the list of faulty inputs.
 #[derive(Clone, Copy)]
-pub struct Faults {
-    pub one: usize,
+pub struct Fault {
+    pub refusal: Refusal,
     pub form: usize,
-    pub other: usize,
-    pub other_form: usize,
 }
 
-// The line of a number's inputs in the tables below: the form of its fault, and 4 where they are sound.
-fn line(x: Faults, number: usize) -> usize {
-    if x.other == number {
-        return x.other_form;
-    }
-    if x.one == number {
-        return x.form;
-    }
-    4
-}
+// The call that every operation takes.
+const SOUND: Call = Call {
+    size: Size {
+        rows: 5,
+        columns: 7,
+    },
+    f: 35,
+    g: 35,
+    window: Window {
+        shape: 1,
+        first: 1,
+        second: 2,
+    },
+    shift: Shift { down: 1, right: -1 },
+    plane: 3,
+    cell: Cell { row: 3, column: 2 },
+    position: 0,
+    request: 5,
+    work: 7,
+    out: 35,
+};
 
-const MOST: usize = 18446744073709551615;
-
-// The natural inputs of a form: rows, columns, the lengths of f and g, shape, plane, row, column, position, request, and the lengths
-// of the work and output areas.
-fn naturals(form: usize) -> [usize; 12] {
-    match form {
-        0 => [0, 7, 36, 35, 0, 6, 5, 2, 6, 0, 7, 36],
-        1 => [257, 7, 34, 35, 2, 7, 3, 7, 3, 3, 7, 34],
-        2 => [5, 0, 0, 0, 1, 4294967295, MOST, 0, 0, 6, 8, 35],
-        3 => [5, 1025, 35, 36, 3, 65536, 0, 35, MOST, 5, 6, 35],
-        _ => [5, 7, 35, 35, 1, 3, 3, 2, 0, 5, 7, 35],
-    }
-}
-
-// The whole inputs of a form: the window's two numbers, and the shift down and right.
-fn wholes(form: usize) -> [i32; 4] {
-    match form {
-        0 => [1, 1, 256, 0],
-        1 => [1, 1, -256, 0],
-        2 => [-1, 3, 0, 1024],
-        3 => [64, 64, 0, -1024],
-        _ => [1, 2, 1, -1],
-    }
-}
-
-// An input by the faults of its number.
-fn natural(x: Faults, number: usize, input: usize) -> usize {
-    let n = naturals(line(x, number));
-    let k = input % 12;
-    n[k]
-}
-
-fn whole(x: Faults, number: usize, input: usize) -> i32 {
-    let n = wholes(line(x, number));
-    let k = input % 4;
-    n[k]
-}
-
-// The call with two faults; one without them is taken by every operation.
-pub fn made(x: Faults) -> Call {
+// The faulty inputs of each form.
+const FAULTY: [Call; 4] = [
     Call {
         size: Size {
-            rows: natural(x, 1, 0),
-            columns: natural(x, 1, 1),
+            rows: 0,
+            columns: 7,
         },
-        f: natural(x, 2, 2),
-        g: natural(x, 2, 3),
+        f: 36,
+        g: 35,
         window: Window {
-            shape: (natural(x, 3, 4) % 4294967296) as u32,
-            first: whole(x, 3, 0),
-            second: whole(x, 3, 1),
+            shape: 0,
+            first: 1,
+            second: 1,
         },
         shift: Shift {
-            down: whole(x, 4, 2),
-            right: whole(x, 4, 3),
+            down: 256,
+            right: 0,
         },
-        plane: (natural(x, 5, 5) % 4294967296) as u32,
+        plane: 6,
+        cell: Cell { row: 5, column: 2 },
+        position: 6,
+        request: 0,
+        work: 7,
+        out: 36,
+    },
+    Call {
+        size: Size {
+            rows: 257,
+            columns: 7,
+        },
+        f: 34,
+        g: 35,
+        window: Window {
+            shape: 2,
+            first: 1,
+            second: 1,
+        },
+        shift: Shift {
+            down: -256,
+            right: 0,
+        },
+        plane: 7,
+        cell: Cell { row: 3, column: 7 },
+        position: 3,
+        request: 3,
+        work: 7,
+        out: 34,
+    },
+    Call {
+        size: Size {
+            rows: 5,
+            columns: 0,
+        },
+        f: 0,
+        g: 0,
+        window: Window {
+            shape: 1,
+            first: -1,
+            second: 3,
+        },
+        shift: Shift {
+            down: 0,
+            right: 1024,
+        },
+        plane: u32::MAX,
         cell: Cell {
-            row: natural(x, 6, 6),
-            column: natural(x, 6, 7),
+            row: usize::MAX,
+            column: 0,
         },
-        position: natural(x, 7, 8),
-        request: natural(x, 7, 9),
-        work: natural(x, 8, 10),
-        out: natural(x, 8, 11),
+        position: 0,
+        request: 6,
+        work: 8,
+        out: 35,
+    },
+    Call {
+        size: Size {
+            rows: 5,
+            columns: 1025,
+        },
+        f: 35,
+        g: 36,
+        window: Window {
+            shape: 3,
+            first: 64,
+            second: 64,
+        },
+        shift: Shift {
+            down: 0,
+            right: -1024,
+        },
+        plane: 65536,
+        cell: Cell { row: 0, column: 35 },
+        position: usize::MAX,
+        request: 5,
+        work: 6,
+        out: 35,
+    },
+];
+
+impl Call {
+    // The call with a fault, where one is given.
+    fn with(self, fault: Option<Fault>) -> Call {
+        let Some(Fault { refusal, form }) = fault else {
+            return self;
+        };
+        let faulty = FAULTY[form % 4];
+        match refusal {
+            Refusal::Size => Call {
+                size: faulty.size,
+                ..self
+            },
+            Refusal::Length => Call {
+                f: faulty.f,
+                g: faulty.g,
+                ..self
+            },
+            Refusal::Window => Call {
+                window: faulty.window,
+                ..self
+            },
+            Refusal::Shift => Call {
+                shift: faulty.shift,
+                ..self
+            },
+            Refusal::Plane => Call {
+                plane: faulty.plane,
+                ..self
+            },
+            Refusal::Cell => Call {
+                cell: faulty.cell,
+                ..self
+            },
+            Refusal::Position => Call {
+                position: faulty.position,
+                request: faulty.request,
+                ..self
+            },
+            Refusal::Area => Call {
+                work: faulty.work,
+                out: faulty.out,
+                ..self
+            },
+            Refusal::Sums | Refusal::Text => self,
+        }
     }
 }
 
-// How many of the forms of each fault, from 0 to 8, an operation refuses, 0 where it lacks the input: the direct sum, building,
-// reading, the row call, smoothing and the steady search.
-fn forms(operation: usize) -> [usize; 9] {
-    match operation {
-        0 => [0, 4, 4, 4, 4, 4, 4, 0, 0],
-        1 => [0, 4, 4, 0, 4, 4, 0, 0, 2],
-        2 => [0, 4, 0, 4, 0, 0, 4, 0, 2],
-        3 => [0, 4, 4, 4, 4, 4, 0, 4, 4],
-        4 => [0, 4, 3, 4, 0, 0, 0, 0, 2],
-        _ => [0, 4, 4, 4, 4, 0, 0, 0, 0],
-    }
+// The call with two faults, the other one made last; one without them is taken by every operation.
+pub fn made(one: Option<Fault>, other: Option<Fault>) -> Call {
+    SOUND.with(one).with(other)
 }
 
-// The number by which an operation is to refuse a fault, and 99 where it does not look at it.
-fn refusing(operation: usize, number: usize, form: usize) -> u64 {
-    let refused = forms(operation);
-    let n = number % 9;
-    if form < refused[n] {
-        return number as u64;
-    }
-    99
+// An operation that a call is tried with.
+#[derive(Clone, Copy, Debug, PartialEq, Eq)]
+pub enum Operation {
+    DirectSum,
+    Build, // a cumulative table
+    Read, // one
+    Rows,
+    Smooth,
+    Steady, // search for the first steady cell
 }
 
-// The number by which an operation is to refuse a call with two faults; 0 where it is to be taken.
-pub fn expected(operation: usize, x: Faults) -> u64 {
-    let last = refusing(operation, x.other, x.other_form);
-    let first = if x.one == x.other {
-        last
-    } else {
-        refusing(operation, x.one, x.form)
-    };
-    let least = if first < last { first } else { last };
-    if least == 99 { 0 } else { least }
+impl Operation {
+    // How many of the forms of a fault it refuses, 0 where it lacks the input.
+    fn forms(self, fault: Refusal) -> usize {
+        match (fault, self) {
+            (Refusal::Size, _) => 4,
+            (Refusal::Length, Operation::Read) => 0,
+            (Refusal::Length, Operation::Smooth) => 3,
+            (Refusal::Length, _) => 4,
+            (Refusal::Window, Operation::Build) => 0,
+            (Refusal::Window, _) => 4,
+            (Refusal::Shift, Operation::Read | Operation::Smooth) => 0,
+            (Refusal::Shift, _) => 4,
+            (Refusal::Plane, Operation::DirectSum | Operation::Build | Operation::Rows) => 4,
+            (Refusal::Cell, Operation::DirectSum | Operation::Read) => 4,
+            (Refusal::Position | Refusal::Area, Operation::Rows) => 4,
+            (Refusal::Area, Operation::Build | Operation::Read | Operation::Smooth) => 2,
+            _ => 0,
+        }
+    }
+
+    // The refusal of a fault, and none where it does not look at it.
+    fn refusing(self, fault: Option<Fault>) -> Option<Refusal> {
+        let Fault { refusal, form } = fault?;
+        (form < self.forms(refusal)).then_some(refusal)
+    }
+
+    // The refusal of a call with two faults, none where it is to be taken: that of the smaller number, and that of the other fault alone
+    // where it takes the place of the one.
+    pub fn expected(self, one: Option<Fault>, other: Option<Fault>) -> Option<Refusal> {
+        let last = self.refusing(other);
+        if one.map(|fault| fault.refusal) == other.map(|fault| fault.refusal) {
+            return last;
+        }
+        match (self.refusing(one), last) {
+            (Some(first), Some(last)) if u32::from(first) < u32::from(last) => Some(first),
+            (first, None) => first,
+            _ => last,
+        }
+    }
 }

@@ -1,56 +1,41 @@
 // Cases made of the generator's numbers.
-use crate::cases::Case;
+use crate::cases::{Case, Plane, Shape};
+use picture::Shift;
 use trial_tools::random;
 
 // Two window numbers of a shape: mostly small ones.
-fn window_number(n: u64, shape: u32) -> usize {
+fn window_number(n: u64, shape: Shape) -> usize {
+    let drawn = n / 64;
     if n / 3 % 6 != 0 {
-        return (n / 64 % 5) as usize;
+        return (drawn % 5) as usize;
     }
-    if shape == 3 {
-        return (n / 64 % 64) as usize;
+    match shape {
+        Shape::Hexagon => (drawn % 64) as usize,
+        _ => (drawn % 128) as usize,
     }
-    (n / 64 % 128) as usize
 }
 
-fn second_number(n: u64, shape: u32) -> usize {
-    if shape == 2 {
-        return 0;
+fn second_number(n: u64, shape: Shape) -> usize {
+    match shape {
+        Shape::Diamond => 0,
+        _ => window_number(n, shape),
     }
-    window_number(n, shape)
 }
 
-// A shift raised by its limit: none, a small one, one inside the pictures of the trials, or any.
-fn shift_down(n: u64) -> usize {
-    let kind = n / 3 % 4;
-    if kind == 0 {
-        return 255;
-    }
-    if kind == 1 {
-        return (n / 64 % 5 + 253) as usize;
-    }
-    if kind == 2 {
-        return (n / 64 % 41 + 235) as usize;
-    }
-    (n / 64 % 511) as usize
-}
-
-fn shift_right(n: u64) -> usize {
-    let kind = n / 3 % 4;
-    if kind == 0 {
-        return 1023;
-    }
-    if kind == 1 {
-        return (n / 64 % 5 + 1021) as usize;
-    }
-    if kind == 2 {
-        return (n / 64 % 61 + 993) as usize;
-    }
-    (n / 64 % 2047) as usize
+// A number of a shift: none, a small one, one inside the pictures of the trials, or any up to its limit.
+fn shift_number(n: u64, inside: u16, limit: u16) -> i32 {
+    let most = match n / 3 % 4 {
+        0 => 0,
+        1 => 2,
+        2 => inside,
+        _ => limit,
+    };
+    let raised = n / 64 % (2 * u64::from(most) + 1);
+    raised as i32 - i32::from(most)
 }
 
 // A case of up to 24 rows and 40 columns.
-pub fn case(seed: u64, shape: u32, plane: u32) -> Case {
+pub fn case(seed: u64, shape: Shape, plane: Plane) -> Case {
     let a = random::next(seed);
     let b = random::next(a);
     let c = random::next(b);
@@ -63,8 +48,10 @@ pub fn case(seed: u64, shape: u32, plane: u32) -> Case {
         shape,
         first: window_number(c, shape),
         second: second_number(d, shape),
-        down: shift_down(e),
-        right: shift_right(f),
+        shift: Shift {
+            down: shift_number(e, 20, 255),
+            right: shift_number(f, 30, 1023),
+        },
         plane,
         seed,
     }

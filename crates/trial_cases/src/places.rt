@@ -1,43 +1,43 @@
-// The cases and cells that the groups of trials go through.
-use crate::cases::Case;
-use crate::{cases, generated};
-use trial_tools::{areas, random};
+// The cases that the groups of trials go through.
+use crate::cases::{Case, Plane, Shape};
+use crate::generated;
+use trial_tools::random;
 
-// The shape and the plane of the k-th case: all pairs of them in turn.
-fn shape(k: usize) -> u32 {
-    (k % 3 + 1) as u32
-}
+const SHAPES: [Shape; 3] = [Shape::Rectangle, Shape::Diamond, Shape::Hexagon];
 
-fn plane(k: usize) -> u32 {
-    (k / 3 % 6) as u32
-}
+const PLANES: [Plane; 6] = [
+    Plane::One,
+    Plane::F,
+    Plane::G,
+    Plane::SquareF,
+    Plane::SquareG,
+    Plane::Product,
+];
 
-fn seed(k: usize) -> u64 {
-    random::at(2024, k)
+// The k-th case of any size: all pairs of a shape and a plane in turn.
+fn generated_case(k: usize) -> Case {
+    generated::case(random::at(2024, k), SHAPES[k % 3], PLANES[k / 3 % 6])
 }
 
 // The k-th case of up to 24 rows and 40 columns; the first ones have one row, one column, or both.
 pub fn case(k: usize) -> Case {
-    let c = generated::case(seed(k), shape(k), plane(k));
-    if k % 24 == 0 {
-        return cases::with_size(c, 1, 1);
+    let c = generated_case(k);
+    match k % 24 {
+        0 => c.with_size(1, 1),
+        7 => c.with_size(1, c.columns),
+        17 => c.with_size(c.rows, 1),
+        _ => c,
     }
-    if k % 24 == 7 {
-        return cases::with_size(c, 1, c.columns);
-    }
-    if k % 24 == 17 {
-        return cases::with_size(c, c.rows, 1);
-    }
-    c
 }
 
 // The k-th case of 256 rows or 1,024 columns.
 pub fn large_case(k: usize) -> Case {
-    let c = generated::case(seed(k), shape(k), plane(k));
+    let c = generated_case(k);
     if k % 2 == 0 {
-        return cases::with_size(c, 256, c.columns);
+        c.with_size(256, c.columns)
+    } else {
+        c.with_size(c.rows, 1024)
     }
-    cases::with_size(c, c.rows, 1024)
 }
 
 // A case, and at how many of its cells it is tried.
@@ -51,60 +51,24 @@ pub struct Trial {
 pub fn tried(k: usize, small: usize) -> Trial {
     if k < small {
         let case = case(k);
-        return Trial {
+        Trial {
             case,
-            cells: cases::cells(case),
-        };
+            cells: case.cells(),
+        }
+    } else {
+        Trial {
+            case: large_case(k - small),
+            cells: 12,
+        }
     }
-    let case = large_case(k - small);
-    Trial { case, cells: 12 }
 }
 
 // The same for sessions, with 256 rows or 1,024 columns now and then.
 pub fn session_case(k: usize) -> Case {
     let c = case(k);
-    if k % 36 == 5 {
-        return cases::with_size(c, 256, 4);
+    match k % 36 {
+        5 => c.with_size(256, 4),
+        22 => c.with_size(1, 1024),
+        _ => c,
     }
-    if k % 36 == 22 {
-        return cases::with_size(c, 1, 1024);
-    }
-    c
-}
-
-// The pattern of a session's requests: all of them with each shape and plane.
-pub fn pattern(k: usize) -> usize {
-    k / 18 % 6
-}
-
-// n % by, and 0 where by is 0.
-pub fn reduced(n: usize, by: usize) -> usize {
-    if by == 0 { 0 } else { n % by }
-}
-
-fn divided(n: usize, by: usize) -> usize {
-    if by == 0 { 0 } else { n / by }
-}
-
-// The cells of a picture in an order that soon reaches all parts of it: each of them once, where their number has no factor 7919.
-fn place(c: Case, k: usize) -> usize {
-    reduced(areas::times(k, 7919), cases::cells(c))
-}
-
-// The row and the column of the k-th cell in row order.
-pub fn row_of(c: Case, k: usize) -> usize {
-    divided(k, c.columns)
-}
-
-pub fn column_of(c: Case, k: usize) -> usize {
-    reduced(k, c.columns)
-}
-
-// The row and the column of the k-th cell in that other order.
-pub fn row(c: Case, k: usize) -> usize {
-    divided(place(c, k), c.columns)
-}
-
-pub fn column(c: Case, k: usize) -> usize {
-    reduced(place(c, k), c.columns)
 }

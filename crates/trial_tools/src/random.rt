@@ -14,68 +14,66 @@ pub fn at(seed: u64, place: usize) -> u64 {
 // A level of 16 bits: each of them is possible.
 pub fn level(n: u64) -> i16 {
     let bits = n / 3;
-    if bits % 65536 < 32768 {
-        (bits % 32768) as i16
-    } else {
-        !((bits % 32768) as i16)
-    }
+    let low = (bits % 32768) as i16;
+    if bits % 65536 < 32768 { low } else { !low }
 }
 
 // A number of 64 bits, of either sign, from the least to the largest.
 pub fn whole(seed: u64, place: usize) -> i64 {
     let high = at(seed, place);
     let low = next(high);
-    let bits = high % 2147483648 * 4294967296 + low % 4294967296;
-    if high / 7 % 2 == 0 {
-        (bits % 9223372036854775808) as i64
-    } else {
-        !((bits % 9223372036854775808) as i64)
+    let bits = (high % 2147483648 * 4294967296 + low % 4294967296) as i64;
+    if high / 7 % 2 == 0 { bits } else { !bits }
+}
+
+// What a generated picture is like.
+#[derive(Clone, Copy, Debug, PartialEq, Eq)]
+pub enum Kind {
+    Flat,
+    Small, // levels from 0 to 3
+    Negative, // levels from -7 to -1
+    NearlyFlat,
+    Extremes,
+    Any,
+}
+
+impl Kind {
+    // The kind of a number's picture: any levels in three of eight.
+    fn of(n: u64) -> Kind {
+        match n % 8 {
+            0 => Kind::Flat,
+            1 => Kind::Small,
+            2 => Kind::Negative,
+            3 => Kind::NearlyFlat,
+            4 => Kind::Extremes,
+            _ => Kind::Any,
+        }
+    }
+
+    // The level that a number gives in the picture of a seed.
+    fn level(self, seed: u64, n: u64) -> i16 {
+        let drawn = n / 3;
+        match self {
+            Kind::Flat => level(seed),
+            Kind::Small => (drawn % 4) as i16,
+            Kind::Negative => !((drawn % 7) as i16),
+            Kind::NearlyFlat => { if drawn % 16 == 0 { 1 } else { 5 } }
+            Kind::Extremes => { if drawn % 2 == 0 { i16::MAX } else { i16::MIN } }
+            Kind::Any => level(n),
+        }
     }
 }
 
-// The extremes of 16 bits by turns.
-fn extreme(n: u64) -> i16 {
-    if n / 3 % 2 == 0 { 32767 } else { !32767 }
-}
-
-// Nearly flat: one cell in sixteen differs.
-fn nearly_flat(n: u64) -> i16 {
-    if n / 3 % 16 == 0 { 1 } else { 5 }
-}
-
-// The level of a picture of a kind: flat, of small ranges, nearly flat, extremes, or anything.
-fn level_of(kind: u64, seed: u64, n: u64) -> i16 {
-    if kind == 0 {
-        return level(seed);
-    }
-    if kind == 1 {
-        return (n / 3 % 4) as i16;
-    }
-    if kind == 2 {
-        return !((n / 3 % 7) as i16);
-    }
-    if kind == 3 {
-        return nearly_flat(n);
-    }
-    if kind == 4 {
-        return extreme(n);
-    }
-    level(n)
-}
-
-// The first n levels that a seed gives, of a kind.
-pub fn levels(n: usize, kind: u64, seed: u64) -> [i16; 32768] {
-    let most = n % 32769;
-    let mut out = [0i16; 32768];
-    let mut k = 0usize;
-    while k < most {
-        out[k] = level_of(kind, seed, at(seed, k));
-        k += 1;
+// The first n levels that a seed gives, of a kind; the others are 0.
+pub fn levels<const N: usize>(n: usize, kind: Kind, seed: u64) -> [i16; N] {
+    let mut out = [0i16; N];
+    for (k, level) in out.iter_mut().enumerate().take(n) {
+        *level = kind.level(seed, at(seed, k));
     }
     out
 }
 
 // The first n levels of a picture, of the kind that the seed gives.
-pub fn picture(n: usize, seed: u64) -> [i16; 32768] {
-    levels(n, next(seed) / 5 % 8, seed)
+pub fn picture<const N: usize>(n: usize, seed: u64) -> [i16; N] {
+    levels(n, Kind::of(next(seed) / 5), seed)
 }

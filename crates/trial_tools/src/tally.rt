@@ -1,6 +1,5 @@
 // What a group of trials has compared: how many things, how many of them differed, and a checksum of what the library gave.
-use std::io;
-use std::io::Write;
+use std::fmt;
 
 #[derive(Clone, Copy)]
 pub struct Tally {
@@ -9,11 +8,25 @@ pub struct Tally {
     pub checksum: u64,
 }
 
-pub fn fresh() -> Tally {
-    Tally {
-        compared: 0,
-        different: 0,
-        checksum: 1,
+// Nothing compared yet; the checksum begins at 1.
+impl Default for Tally {
+    fn default() -> Tally {
+        Tally {
+            compared: 0,
+            different: 0,
+            checksum: 1,
+        }
+    }
+}
+
+// As the line of a group says it.
+impl fmt::Display for Tally {
+    fn fmt<W: fmt::Write>(&self, f: &mut fmt::Formatter<W>) -> fmt::Result {
+        write!(
+            f,
+            "{} compared, {} different, checksum {}",
+            self.compared, self.different, self.checksum
+        )
     }
 }
 
@@ -22,66 +35,66 @@ fn stirred(checksum: u64, half: u64) -> u64 {
     (checksum % 4294967291) * 279470273 % 4294967291 + half % 4294967296
 }
 
-// The checksum with a number more.
-fn added(checksum: u64, number: u64) -> u64 {
-    stirred(stirred(checksum, number % 4294967296), number / 4294967296)
+// What is compared: a number, which the checksum takes by halves.
+pub trait Compared: PartialEq + Copy + Drop {
+    fn stir(self, checksum: u64) -> u64;
+}
+
+impl Compared for u64 {
+    fn stir(self, checksum: u64) -> u64 {
+        stirred(stirred(checksum, self % 4294967296), self / 4294967296)
+    }
+}
+
+// A whole number: its sign, and then its magnitude.
+impl Compared for i64 {
+    fn stir(self, checksum: u64) -> u64 {
+        self.unsigned_abs()
+            .stir(stirred(checksum, u64::from(self < 0)))
+    }
+}
+
+impl Compared for usize {
+    fn stir(self, checksum: u64) -> u64 {
+        (self as u64).stir(checksum)
+    }
+}
+
+impl Compared for u8 {
+    fn stir(self, checksum: u64) -> u64 {
+        u64::from(self).stir(checksum)
+    }
+}
+
+impl Compared for i16 {
+    fn stir(self, checksum: u64) -> u64 {
+        i64::from(self).stir(checksum)
+    }
 }
 
 impl Tally {
-    // One comparison more, and whether it differed.
-    fn counted(self, differs: bool) -> Tally {
-        let mut t = self;
-        t.compared = std::num::wrapping_add_u64(t.compared, 1);
-        if differs {
-            t.different = std::num::wrapping_add_u64(t.different, 1);
+    // One comparison more: of the library's number and the rival's.
+    pub fn with<N: Compared>(self, ours: N, rivals: N) -> Tally {
+        Tally {
+            compared: self.compared.wrapping_add(1),
+            different: self.different.wrapping_add(u64::from(ours != rivals)),
+            ..self.with_unmatched(ours)
         }
-        t
     }
 
-    // One comparison more, of two natural numbers: the library's and the rival's.
-    pub fn with_natural(self, ours: u64, rivals: u64) -> Tally {
-        let mut t = self.counted(ours != rivals);
-        let before = t.checksum;
-        t.checksum = added(before, ours);
-        t
+    // The checksum alone with a number of the library's, where the rival has none.
+    pub fn with_unmatched<N: Compared>(self, ours: N) -> Tally {
+        Tally {
+            checksum: ours.stir(self.checksum),
+            ..self
+        }
     }
 
-    // One comparison more, of two whole numbers.
-    pub fn with(self, ours: i64, rivals: i64) -> Tally {
-        self.counted(ours != rivals).with_unmatched(ours)
+    // The first n numbers of two areas compared.
+    pub fn with_first<N: Compared>(self, n: usize, ours: &[N], rivals: &[N]) -> Tally {
+        ours.iter()
+            .zip(rivals)
+            .take(n)
+            .fold(self, |t, (our, rival)| t.with(*our, *rival))
     }
-
-    // The checksum alone with a whole number of the library's, where the rival has none.
-    pub fn with_unmatched(self, ours: i64) -> Tally {
-        let mut t = self;
-        let before = t.checksum;
-        t.checksum = added(stirred(before, sign(ours)), machine::magnitude(ours));
-        t
-    }
-}
-
-fn sign(z: i64) -> u64 {
-    if z < 0 { 1 } else { 0 }
-}
-
-// The line of a group.
-pub fn print(rt: &impl Print, name: &[u8], tally: Tally) -> io::Result<()> {
-    io::writer(rt).write_all(name)?;
-    print_counts(rt, tally)
-}
-
-// The line of a group that has a number.
-pub fn print_numbered(rt: &impl Print, name: &[u8], number: u64, tally: Tally) -> io::Result<()> {
-    io::writer(rt).write_all(name)?;
-    print!(rt; "{number}")?;
-    print_counts(rt, tally)
-}
-
-fn print_counts(rt: &impl Print, tally: Tally) -> io::Result<()> {
-    let Tally {
-        compared,
-        different,
-        checksum,
-    } = tally;
-    println!(rt; ": {compared} compared, {different} different, checksum {checksum}")
 }

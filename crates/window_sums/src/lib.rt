@@ -5,14 +5,14 @@
 ghost use Rattle.std.specs.Prelude.{◌≡◌, ◌+ℤ◌};
 ghost use Rattle.numbers.specs.Sum.{sum_to};
 ghost use Rattle.numbers.specs.Wrap.{wrap};
-ghost use Rattle.picture.specs.Picture.{inputs};
+ghost use Rattle.picture.specs.Given.{inputs_of};
 ghost use Rattle.picture.specs.Direct.{direct_sum};
 ghost use Rattle.lines.specs.Lines.{line_value};
 ghost use Rattle.window_sums.specs.Summing.{SumAsked, ColumnsAsked, RowColumns, LineSumAsked};
 
 use lines::Line;
 use overlaps::Overlap;
-use picture::{Cell, Shift, Size, Window};
+use picture::{Cell, Inputs, Window};
 
 // The columns that count of the window's part in row m; `along` are those of the picture.
 fn columns_of(columns: usize, window: Window, cell: Cell, along: Overlap, m: usize) -> Overlap
@@ -42,33 +42,30 @@ fn add_line(plane: u32, f: &[i16], g: &[i16], line: Line, n: usize, sum: i64) ->
 }
 
 // The sum of the plane over the window.
-pub fn sum(
-    size: Size,
-    f: &[i16],
-    g: &[i16],
-    window: Window,
-    shift: Shift,
-    plane: u32,
-    cell: Cell,
-) -> i64
-    requires { SumAsked size f.now g.now window cell }
-    ensures { result ≡ direct_sum (inputs size f.now g.now window shift plane) cell.row cell.column }
+pub fn sum(inputs: &Inputs<'_>, cell: Cell) -> i64
+    requires { SumAsked inputs.now.source.size inputs.now.source.f.now inputs.now.source.g.now inputs.now.window cell }
+    ensures { result ≡ direct_sum (inputs_of inputs.now) cell.row cell.column }
 {
-    let rows = size.rows;
-    let columns = size.columns;
+    let rows = inputs.source.size.rows;
+    let columns = inputs.source.size.columns;
     let row = cell.row;
-    let right = shift.right;
-    let counting = overlaps::overlap_of(rows, shift.down);
+    let right = inputs.source.shift.right;
+    let counting = overlaps::overlap_of(rows, inputs.source.shift.down);
     let along = overlaps::overlap_of(columns, right);
-    let height = shape::height(window);
+    let height = shape::height(inputs.window);
     let bottom = clip::high(row, height, rows);
     let mut s = 0i64;
-    let mut m = clip::low(row, height);
-    while m < bottom {
-        let part = columns_of(columns, window, cell, along, m);
-        let line = lines::line_of(size, counting, part, m);
-        s = add_line(plane, f, g, line, part.end - part.first, s);
-        m += 1;
+    for m in clip::low(row, height)..bottom {
+        let part = columns_of(columns, inputs.window, cell, along, m);
+        let line = lines::line_of(inputs.source.size, counting, part, m);
+        s = add_line(
+            inputs.source.plane,
+            inputs.source.f,
+            inputs.source.g,
+            line,
+            part.end - part.first,
+            s,
+        );
     }
     s
 }

@@ -7,6 +7,3 @@ use Rattle.across.proofs.leaving.Given as goal
 
 abbrev pub invariant-loop-j : goal.invariant-loop-j
 invariant-loop-j l = (l.first ≤ l.j) × (l.j ≤ length l.work) × (l.s ≡ range_sum l.work (l.j - l.b - 1) (length l.work)) × Written (neighbour_sum l.work l.b) l.initial.out l.out l.first l.j
-
-abbrev pub decreases-loop-j : goal.decreases-loop-j
-decreases-loop-j l = length l.work - l.j

@@ -6,6 +6,3 @@ use Rattle.across.proofs.sliding.Given as goal
 
 abbrev pub invariant-loop-j : goal.invariant-loop-j
 invariant-loop-j l = (l.first ≤ l.j) × (l.j ≤ l.end) × (l.s ≡ range_sum l.work (l.j - l.b - 1) (l.j + l.b)) × Written (neighbour_sum l.work l.b) l.initial.out l.out l.first l.j
-
-abbrev pub decreases-loop-j : goal.decreases-loop-j
-decreases-loop-j l = l.end - l.j

@@ -14,10 +14,10 @@ use Rattle.advance.proofs.by_edges.Goals as goal
 
 pub returns-then-position-eq0 : goal.returns-then-position-eq0
 returns-then-position-eq0 c =
-    let fits : c.args.size.columns ≤ length c.args.out.now = omega (arith, c.requires.many.room, line-end 0 c.args.n c.args.size.columns c.requires.some) in
-    let z = c.args.size in
-    let P = plane_at (source z c.args.f.now c.args.g.now c.args.shift c.args.plane) in
-    let S = shape_of c.args.window in
+    let fits : c.args.inputs.now.source.size.columns ≤ length c.args.out.now = omega (arith, c.requires.many.room, line-end 0 c.args.n c.args.inputs.now.source.size.columns c.requires.some) in
+    let z = c.args.inputs.now.source.size in
+    let P = plane_at (source z c.args.inputs.now.source.f.now c.args.inputs.now.source.g.now c.args.inputs.now.source.shift c.args.inputs.now.source.plane) in
+    let S = shape_of c.args.inputs.now.window in
     let first = c.next in
     let rest = c.many in
     let end = length c.args.out.now in

@@ -1,14 +1,12 @@
 -- What the loops of `advance::one_by_one` keep. Assumes nothing.
 use mathlib.Core.Path.{◌≡◌}
-use Prim.Native.Nat.{◌-◌, ◌*◌, ◌≤◌}
+use Prim.Native.Nat.{◌*◌, ◌≤◌}
 use lib.ListN.{length}
 use Rattle.picture.specs.Window.{shape_of}
-use Rattle.picture.specs.Picture.{source, plane_at}
+use Rattle.picture.specs.Picture.{plane_at}
+use Rattle.picture.specs.Given.{source_of}
 use Rattle.session.proofs.Strips.{Partly}
 use Rattle.advance.proofs.one_by_one.Given as goal
 
 abbrev pub invariant-loop-k : goal.invariant-loop-k
-invariant-loop-k l = (l.k ≤ l.n) × (l.start ≡ l.k * l.size.columns) × (length l.out ≡ length l.initial.out) × (length l.work ≡ l.size.columns) × Partly l.size (plane_at (source l.size l.f l.g l.shift l.plane)) (shape_of l.window) l.position l.initial.work l.k l.work l.out
-
-abbrev pub decreases-loop-k : goal.decreases-loop-k
-decreases-loop-k l = l.n - l.k
+invariant-loop-k l = (l.k ≤ l.n) × (l.start ≡ l.k * l.inputs.source.size.columns) × (length l.out ≡ length l.initial.out) × (length l.work ≡ l.inputs.source.size.columns) × Partly l.inputs.source.size (plane_at (source_of l.inputs.source)) (shape_of l.inputs.window) l.position l.initial.work l.k l.work l.out

@@ -11,4 +11,4 @@ returns-then-is_rectangle c =
 
 pub returns : goal.returns
 returns c =
-    output-slanted c.args.size (shape_of c.args.window) c.args.work.now _ (sym c.is_rectangle.ensures ∙ c.if-is_rectangle.false) c.copy.ensures
+    output-slanted c.args.size (shape_of c.args.window) c.args.work.now _ (sym c.is_rectangle.ensures ∙ c.if-is_rectangle.false) c.copy_from_slice.ensures.after

@@ -6,16 +6,17 @@ use native.Mathlib.Nat.{mul-le-mul_right}
 use lib.ListN.{length, take, drop}
 use Rattle.numbers.proofs.Writes.{slice-length}
 use Rattle.picture.specs.Picture.{Inputs, inputs}
+use Rattle.picture.specs.Given.{inputs_of}
 use Rattle.blocks.specs.Blocks.{rows_in}
 use Rattle.blocks.proofs.RowSums.{block_made, row_first}
 use Rattle.blocks.proofs.next.Goals as goal
 
 pub returns : goal.returns
 returns c =
-    let given : Inputs = inputs c.args.size c.args.f.now c.args.g.now c.args.window c.args.shift c.args.plane in
+    let given : Inputs = inputs_of c.args.inputs.now in
     let rows_of : c.high.result - c.args.i ≡ rows_in given c.args.i = rw c.high.ensures in
-    let few : (c.high.result - c.args.i) * c.args.size.columns ≤ 16 * c.args.size.columns = mul-le-mul_right c.args.size.columns (omega (arith, c.high.ensures)) in
-    let lent : length (take ((c.high.result - c.args.i) * c.args.size.columns - 0) (drop 0 c.args.block.now)) ≡ (c.high.result - c.args.i) * c.args.size.columns = slice-length 0 ((c.high.result - c.args.i) * c.args.size.columns) c.args.block.now (omega arith) (omega (arith, few, c.requires.room)) ∙ omega arith in
+    let few : (c.high.result - c.args.i) * c.args.inputs.now.source.size.columns ≤ 16 * c.args.inputs.now.source.size.columns = mul-le-mul_right c.args.inputs.now.source.size.columns (omega (arith, c.high.ensures)) in
+    let lent : length (take ((c.high.result - c.args.i) * c.args.inputs.now.source.size.columns - 0) (drop 0 c.args.block.now)) ≡ (c.high.result - c.args.i) * c.args.inputs.now.source.size.columns = slice-length 0 ((c.high.result - c.args.i) * c.args.inputs.now.source.size.columns) c.args.block.now (omega arith) (omega (arith, few, c.requires.room)) ∙ omega arith in
     let m = c.many in
     let i = c.args.i in
     let start : i % 16 ≡ 0 = omega (arith, c.if-i-ne0.false) in

@@ -13,20 +13,9 @@ use mir.Val.{SFits, Fits}
 use mir.Facts.{to_z-of_z}
 use Rattle.statistics.specs.declared.Sums.{Sums}
 use Rattle.statistics.specs.SixSums.{unbounded}
-use Rattle.statistics.proofs.Bounds.{not-below, not-bounded}
 use Rattle.bounds.proofs.unbounded.Goals as goal
 
--- ---- N, by the two tests on it
-negative : (z : Sums) → lt_z z.n (pos 0) ≡ true → unbounded z ≡ true
-negative z e = not-bounded z (λ b. let y : ◌≡◌ {A = ℕ} 0 1 = cc (not-below b.whole) in omega arith)
-
-too_many : (z : Sums) → lt_z (pos 65025) z.n ≡ true → unbounded z ≡ true
-too_many z e = not-bounded z (λ b. go z.n e b.whole b.few)
-  where
-    go : (n : ℤ) → lt_z (pos 65025) n ≡ true → pos 0 ≤ℤ n → nat_abs n ≤ 65025 → ⊥
-    go (pos n) e h k = omega (arith, ltb-true 65025 n e)
-    go (negsuc n) e h k = h.le
-
+-- ---- N within its range
 record Within (n : ℤ) : Type 0 where
   cast : T (non_neg n) × Fits w64 (nat_abs n)
   sum_bound : Fits w64 (32768 * nat_abs n)
@@ -51,6 +40,12 @@ tests : (n s t a b p : ℤ) (x y w : ℕ) → lt_z n (pos 0) ≡ false → lt_z 
 tests (negsuc n) s t a b p x y w e f hx hy hw = let z : ◌≡◌ {A = ℕ} 0 1 = cc in absurd (omega arith)
 tests (pos n) s t a b p x y w e f hx hy hw = rw (f, e, hx, hy, hw)
 
+pub overflow_cast-result : goal.overflow_cast-result
+overflow_cast-result c =
+    let fits-n : SFits w64 c.args.z.n = search rules in
+    let at : Within c.args.z.n = within c.args.z.n (search rules) (search rules) in
+    simp (to_z-of_z, fits-n, at.square_bound) at.square_bound_cast
+
 pub returns : goal.returns
 returns c =
     let fits-n : SFits w64 c.args.z.n = search rules in
@@ -59,14 +54,12 @@ returns c =
     let fits-a : SFits w64 c.args.z.a = search rules in
     let fits-b : SFits w64 c.args.z.b = search rules in
     let fits-p : SFits w64 c.args.z.p = search rules in
-    let above : lt_z c.args.z.n (pos 0) ≡ false = simp (to_z-of_z, fits-n) at c.if-n-lt0.false in
-    let few : lt_z (pos 65025) c.args.z.n ≡ false = simp (to_z-of_z, fits-n) at c.if-n-gt65025.false in
+    let above : lt_z c.args.z.n (pos 0) ≡ false = search rules in
+    let few : lt_z (pos 65025) c.args.z.n ≡ false = search rules in
     let at : Within c.args.z.n = within c.args.z.n above few in
-    let d = c in
-    let a = c in
-    let z = a.args.z in
+    let z = c.args.z in
     simp (to_z-of_z, fits-n, fits-a, fits-b, at.square_bound)
     (tests z.n z.s z.t z.a z.b z.p _ _ _ above few
-    (simp (to_z-of_z, fits-s) at c.magnitude.ensures)
-    (simp (to_z-of_z, fits-t) at c.magnitude-2.ensures)
-    (simp (to_z-of_z, fits-p) at c.magnitude-3.ensures))
+    (simp (to_z-of_z, fits-s) at c.unsigned_abs.ensures.value)
+    (simp (to_z-of_z, fits-t) at c.unsigned_abs-2.ensures.value)
+    (simp (to_z-of_z, fits-p) at c.unsigned_abs-3.ensures.value))

@@ -1,38 +1,24 @@
 -- `c_direct::ls_direct_sum` meets its contract. Assumes nothing.
-use borrow.Author.Rules.{rules}
-use mathlib.Core.Path.{◌≡◌, refl, sym, ap, ◌∙◌}
+use mathlib.Core.Path.{◌≡◌, sym, ap, ◌∙◌}
 use lib.IntN.{ℤ}
 use mir.Facts.{to_z-of_z}
-use mir.Syntax.{w64}
-use mir.Val.{SFits}
-use Rattle.picture.specs.Refusal.{Outcome, refused}
+use mir.Syntax.{w32, w64}
+use Rattle.picture.specs.Refusal.{Outcome}
 use Rattle.picture.specs.Size.{size}
 use Rattle.picture.specs.Window.{window}
 use Rattle.picture.specs.Picture.{shift, inputs}
 use Rattle.picture.specs.Direct.{direct_call}
-use Rattle.picture.specs.Answers.{sum_outcome}
-use Rattle.replies.specs.Reply.{with_value}
-use Rattle.replies.proofs.Numbers.{direct-small, small-fits}
-use Rattle.replies.proofs.Replies.{refused-returns, value-returns}
+use Rattle.picture.specs.Answers.{outcome_of}
+use Rattle.replies.specs.Reply.{with_value, status, result_or, reply}
 use Rattle.c_direct.proofs.ls_direct_sum.Goals as goal
 
-pub overflow_cast-result : goal.overflow_cast-result
-overflow_cast-result c =
+pub returns : goal.returns
+returns c =
+    let asked : Outcome ℤ = direct_call (inputs (size c.args.rows c.args.columns) c.args.f.now c.args.g.now (window c.args.shape c.args.first c.args.second) (shift c.args.down c.args.right) c.args.plane) c.args.row c.args.column in
     let f = c.ranges in
-    small-fits (direct-small _ _ _ _ (sym (simp (to_z-of_z, f.first, f.second, f.down, f.right) at c.direct_sum.ensures) ∙ ap sum_outcome c.in-Refused.is))
-
-pub returns-in-Refused : goal.returns-in-Refused
-returns-in-Refused c =
-    let asked : Outcome ℤ = direct_call (inputs (size c.args.rows c.args.columns) c.args.f.now c.args.g.now (window c.args.shape c.args.first c.args.second) (shift c.args.down c.args.right) c.args.plane) c.args.row c.args.column in
-    let answer-is : asked ≡ sum_outcome c.direct_sum.result = let f = c.ranges in sym (simp (to_z-of_z, f.first, f.second, f.down, f.right) at c.direct_sum.ensures) in
-    let refused-is : asked ≡ refused c.in-Refused.number = answer-is ∙ ap sum_outcome c.in-Refused.is in
-    let e = refused-is in
-    record { status = (refused-returns with_value _ c.args.sum.now _ (direct-small _ _ _ _ e) e).0; sum = (refused-returns with_value _ c.args.sum.now _ (direct-small _ _ _ _ e) e).1 }
-
-pub returns-in-Sum : goal.returns-in-Sum
-returns-in-Sum c =
-    let asked : Outcome ℤ = direct_call (inputs (size c.args.rows c.args.columns) c.args.f.now c.args.g.now (window c.args.shape c.args.first c.args.second) (shift c.args.down c.args.right) c.args.plane) c.args.row c.args.column in
-    let answer-is : asked ≡ sum_outcome c.direct_sum.result = let f = c.ranges in sym (simp (to_z-of_z, f.first, f.second, f.down, f.right) at c.direct_sum.ensures) in
-    let value-fits : SFits w64 c.in-Sum.s = search rules in
-    let r = value-returns with_value _ c.args.sum.now _ _ refl (answer-is ∙ ap sum_outcome c.in-Sum.is) in
-    record { status = r.0; sum = to_z-of_z {w = w64} value-fits ∙ r.1 }
+    let answer-is : outcome_of c.direct_sum.result ≡ asked = simp (to_z-of_z, f.first, f.second, f.down, f.right) at c.direct_sum.ensures in
+    let r = c.hand_back.ensures in
+    record {
+      status = to_z-of_z {w = w32} (record { sfits = c.hand_back.type_inv }) ∙ r.status ∙ ap (λ o. status (reply with_value o)) answer-is;
+      sum = r.value ∙ ap (λ o. result_or c.args.sum.now (reply with_value o)) answer-is;
+    }

@@ -1,42 +1,22 @@
 -- `c_moments::ls_variance` meets its contract. Assumes nothing.
-use borrow.Author.Rules.{rules}
-use mathlib.Core.Path.{◌≡◌, refl, sym, ap, ◌∙◌}
-use mathlib.Core.Option.{Option}
+use mathlib.Core.Path.{◌≡◌, ap, ◌∙◌}
 use lib.IntN.{ℤ}
 use mir.Facts.{to_z-of_z}
-use mir.Syntax.{w64}
-use mir.Val.{SFits}
-use Rattle.picture.specs.Refusal.{Outcome, refused}
+use mir.Syntax.{w32}
+use mathlib.Core.Option.{Option}
+use Rattle.picture.specs.Refusal.{Outcome}
+use Rattle.picture.specs.Answers.{optional_outcome}
 use Rattle.statistics.specs.Moments.{variance_call}
-use Rattle.statistics.specs.Answers.{whole_outcome}
-use Rattle.replies.specs.Reply.{sums, of_whole}
-use Rattle.replies.proofs.Numbers.{variance-small, small-fits}
-use Rattle.replies.proofs.Replies.{refused-returns, none-returns, value-returns}
+use Rattle.replies.specs.Reply.{status, result_or, reply, sums, of_whole}
 use Rattle.c_moments.proofs.ls_variance.Goals as goal
 
-pub overflow_cast-result : goal.overflow_cast-result
-overflow_cast-result c =
+pub returns : goal.returns
+returns c =
+    let asked : Outcome (Option ℤ) = variance_call (sums c.args.n c.args.s c.args.t c.args.a c.args.b c.args.p) in
     let f = c.ranges in
-    small-fits (variance-small _ _ (sym (simp (to_z-of_z, f.n, f.s, f.t, f.a, f.b, f.p) at c.variance.ensures) ∙ ap whole_outcome c.in-Refused.is))
-
-pub returns-in-Refused : goal.returns-in-Refused
-returns-in-Refused c =
-    let asked : Outcome (Option ℤ) = variance_call (sums c.args.n c.args.s c.args.t c.args.a c.args.b c.args.p) in
-    let answer-is : asked ≡ whole_outcome c.variance.result = let f = c.ranges in sym (simp (to_z-of_z, f.n, f.s, f.t, f.a, f.b, f.p) at c.variance.ensures) in
-    let refused-is : asked ≡ refused c.in-Refused.number = answer-is ∙ ap whole_outcome c.in-Refused.is in
-    let e = refused-is in
-    record { status = (refused-returns of_whole _ c.args.variance.now _ (variance-small _ _ e) e).0; variance = (refused-returns of_whole _ c.args.variance.now _ (variance-small _ _ e) e).1 }
-
-pub returns-in-Empty : goal.returns-in-Empty
-returns-in-Empty c =
-    let asked : Outcome (Option ℤ) = variance_call (sums c.args.n c.args.s c.args.t c.args.a c.args.b c.args.p) in
-    let answer-is : asked ≡ whole_outcome c.variance.result = let f = c.ranges in sym (simp (to_z-of_z, f.n, f.s, f.t, f.a, f.b, f.p) at c.variance.ensures) in
-    record { status = (none-returns of_whole _ c.args.variance.now _ _ refl (answer-is ∙ ap whole_outcome c.in-Empty.is)).0; variance = (none-returns of_whole _ c.args.variance.now _ _ refl (answer-is ∙ ap whole_outcome c.in-Empty.is)).1 }
-
-pub returns-in-Whole : goal.returns-in-Whole
-returns-in-Whole c =
-    let asked : Outcome (Option ℤ) = variance_call (sums c.args.n c.args.s c.args.t c.args.a c.args.b c.args.p) in
-    let answer-is : asked ≡ whole_outcome c.variance.result = let f = c.ranges in sym (simp (to_z-of_z, f.n, f.s, f.t, f.a, f.b, f.p) at c.variance.ensures) in
-    let value-fits : SFits w64 c.in-Whole.v = search rules in
-    let r = value-returns of_whole _ c.args.variance.now _ _ refl (answer-is ∙ ap whole_outcome c.in-Whole.is) in
-    record { status = r.0; variance = to_z-of_z {w = w64} value-fits ∙ r.1 }
+    let answer-is : optional_outcome c.variance.result ≡ asked = simp (to_z-of_z, f.n, f.s, f.t, f.a, f.b, f.p) at c.variance.ensures in
+    let r = c.hand_back_or.ensures in
+    record {
+      status = to_z-of_z {w = w32} (record { sfits = c.hand_back_or.type_inv }) ∙ r.status ∙ ap (λ o. status (reply of_whole o)) answer-is;
+      variance = r.value ∙ ap (λ o. result_or c.args.variance.now (reply of_whole o)) answer-is;
+    }

@@ -5,6 +5,8 @@ use Prim.Native.Nat.{ℕ, ◌<◌, ◌≤◌}
 use borrow.Author.Tests.{lt-ltb, le-ltb}
 use lib.IntN.{pos}
 use lib.ListN.{length}
+use mir.Facts.{to_z-of_z}
+use mir.Syntax.{w32}
 use Rattle.panel_text.specs.Rendered.{rendered}
 use Rattle.replies.specs.Reply.{without_value, with_value}
 use Rattle.c_panel.specs.PanelReply.{panel_reply}
@@ -30,7 +32,11 @@ pub returns-then-out-lt28672 : goal.returns-then-out-lt28672
 returns-then-out-lt28672 c =
     let h = c.if-out-lt28672.true in
     let r = without-value c.args.written.now _ _ (short-reply _ _ h) in
-    record { status = r.0; area = short-kept _ _ h; written = r.1 }
+    record {
+      status = to_z-of_z {w = w32} (record { sfits = c.refused.type_inv }) ∙ c.refused.ensures ∙ r.0;
+      area = short-kept _ _ h;
+      written = r.1;
+    }
 
 pub returns : goal.returns
 returns c =

@@ -1,32 +1,21 @@
 -- `c_table::ls_build` meets its contract. Assumes nothing.
-use mathlib.Core.Path.{◌≡◌, refl, sym, ap, ◌∙◌}
+use mathlib.Core.Path.{◌≡◌, ap, ◌∙◌}
 use mir.Facts.{to_z-of_z}
-use Rattle.picture.specs.Refusal.{Filling, refused}
+use mir.Syntax.{w32}
+use Rattle.picture.specs.Refusal.{Filling}
 use Rattle.picture.specs.Size.{size}
 use Rattle.picture.specs.Picture.{shift, source}
-use Rattle.picture.specs.Answers.{fill_outcome}
+use Rattle.picture.specs.Answers.{outcome_of}
 use Rattle.cumulative.specs.Table.{build_call}
-use Rattle.replies.specs.Reply.{with_value}
-use Rattle.replies.proofs.Numbers.{build-small, small-fits}
-use Rattle.replies.proofs.Replies.{refused-returns, value-returns}
+use Rattle.replies.specs.Reply.{with_value, status, reply}
 use Rattle.c_table.proofs.ls_build.Goals as goal
 
-pub overflow_cast-result : goal.overflow_cast-result
-overflow_cast-result c =
+pub returns : goal.returns
+returns c =
+    let asked : Filling = build_call (source (size c.args.rows c.args.columns) c.args.f.now c.args.g.now (shift c.args.down c.args.right) c.args.plane) c.args.table.now in
     let f = c.ranges in
-    small-fits (build-small _ _ _ (sym (simp (to_z-of_z, f.down, f.right) at c.build.ensures.answer) ∙ ap fill_outcome c.in-Refused.is))
-
-pub returns-in-Refused : goal.returns-in-Refused
-returns-in-Refused c =
-    let asked : Filling = build_call (source (size c.args.rows c.args.columns) c.args.f.now c.args.g.now (shift c.args.down c.args.right) c.args.plane) c.args.table.now in
-    let answer-is : asked.answer ≡ fill_outcome c.build.result = let f = c.ranges in sym (simp (to_z-of_z, f.down, f.right) at c.build.ensures.answer) in
-    let area-is : c.build.new.table ≡ asked.area = let f = c.ranges in simp (to_z-of_z, f.down, f.right) at c.build.ensures.area in
-    let refused-is : asked.answer ≡ refused c.in-Refused.number = answer-is ∙ ap fill_outcome c.in-Refused.is in
-    let e = refused-is in record { status = (refused-returns with_value _ tt _ (build-small _ _ _ e) e).0; area = area-is }
-
-pub returns-in-Done : goal.returns-in-Done
-returns-in-Done c =
-    let asked : Filling = build_call (source (size c.args.rows c.args.columns) c.args.f.now c.args.g.now (shift c.args.down c.args.right) c.args.plane) c.args.table.now in
-    let answer-is : asked.answer ≡ fill_outcome c.build.result = let f = c.ranges in sym (simp (to_z-of_z, f.down, f.right) at c.build.ensures.answer) in
-    let area-is : c.build.new.table ≡ asked.area = let f = c.ranges in simp (to_z-of_z, f.down, f.right) at c.build.ensures.area in
-    record { status = (value-returns with_value _ tt _ tt refl (answer-is ∙ ap fill_outcome c.in-Done.is)).0; area = area-is }
+    let answer-is : outcome_of c.build.result ≡ asked.answer = simp (to_z-of_z, f.down, f.right) at c.build.ensures.answer in
+    record {
+      status = to_z-of_z {w = w32} (record { sfits = c.done.type_inv }) ∙ c.done.ensures ∙ ap (λ o. status (reply with_value o)) answer-is;
+      area = simp (to_z-of_z, f.down, f.right) at c.build.ensures.area;
+    }

@@ -1,4 +1,5 @@
 -- `change::exchange` meets its contract. Assumes nothing.
+use borrow.Author.Rules.{rules}
 use mathlib.Core.Path.{◌∙◌}
 use Prim.Native.Nat.{ℕ, ◌-◌, ◌≤◌}
 use native.Mathlib.Omega.{arith}
@@ -8,7 +9,8 @@ use mir.Syntax.{w32}
 use mir.Val.{SFits}
 use Rattle.numbers.proofs.Writes.{slice-length}
 use Rattle.overlaps.specs.declared.Overlap.{Overlap}
-use Rattle.picture.specs.Picture.{Source, source}
+use Rattle.picture.specs.Picture.{Source}
+use Rattle.picture.specs.Given.{source_of}
 use Rattle.overlaps.specs.Overlaps.{Overlapping}
 use Rattle.picture.proofs.Refusals.{in-limits}
 use Rattle.lines.specs.Lines.{line_of, Lies}
@@ -20,19 +22,19 @@ pub exchange_lines-requires : goal.exchange_lines-requires
 exchange_lines-requires c =
     let counting : Overlap = c.overlap_of-counting.result in
     let along : Overlap = c.overlap_of-along.result in
-    let down-overlaps : Overlapping c.args.size.rows c.args.shift.down counting =
-    let f : SFits w32 c.args.shift.down = record { sfits = c.struct_told-1.given.0.1 } in
+    let down-overlaps : Overlapping c.args.source.now.size.rows c.args.source.now.shift.down counting =
+    let f : SFits w32 c.args.source.now.shift.down = search rules in
     simp (to_z-of_z, f) at c.overlap_of-counting.ensures in
-    let right-overlaps : Overlapping c.args.size.columns c.args.shift.right along =
-    let f : SFits w32 c.args.shift.right = record { sfits = c.struct_told-1.given.1.0.1 } in
+    let right-overlaps : Overlapping c.args.source.now.size.columns c.args.source.now.shift.right along =
+    let f : SFits w32 c.args.source.now.shift.right = search rules in
     simp (to_z-of_z, f) at c.overlap_of-along.ensures in
-    let few : along.end ≤ 1024 = omega (arith, right-overlaps.within, (in-limits c.args.size c.requires.size).few_columns) in
+    let few : along.end ≤ 1024 = omega (arith, right-overlaps.within, (in-limits c.args.source.now.size c.requires.size).few_columns) in
     let two = c in
     let s = c in
     let o = right-overlaps in
     let fits : along.end ≤ length s.args.sums.now = omega (arith, o.within, s.requires.room) in
     let n = slice-length along.first along.end s.args.sums.now o.ordered fits in
-    let lies : (m : ℕ) → Lies s.args.f.now s.args.g.now (along.end - along.first) (line_of s.args.size counting along m) = λ m. line-lies s.args.size counting along m s.args.f.now s.args.g.now (in-limits s.args.size s.requires.size) (span _ _ _ down-overlaps) (span _ _ _ o) s.requires.length_f s.requires.length_g in
+    let lies : (m : ℕ) → Lies s.args.source.now.f.now s.args.source.now.g.now (along.end - along.first) (line_of s.args.source.now.size counting along m) = λ m. line-lies s.args.source.now.size counting along m s.args.source.now.f.now s.args.source.now.g.now (in-limits s.args.source.now.size s.requires.size) (span _ _ _ down-overlaps) (span _ _ _ o) s.requires.length_f s.requires.length_g in
     record {
       few = omega (arith, few, n);
       entering = rw (c.line_of.ensures, n) (lies _);
@@ -42,14 +44,14 @@ exchange_lines-requires c =
 
 pub returns : goal.returns
 returns c =
-    let pictures : Source = source c.args.size c.args.f.now c.args.g.now c.args.shift c.args.plane in
+    let pictures : Source = source_of c.args.source.now in
     let counting : Overlap = c.overlap_of-counting.result in
     let along : Overlap = c.overlap_of-along.result in
-    let down-overlaps : Overlapping c.args.size.rows c.args.shift.down counting =
-    let f : SFits w32 c.args.shift.down = record { sfits = c.struct_told-1.given.0.1 } in
+    let down-overlaps : Overlapping c.args.source.now.size.rows c.args.source.now.shift.down counting =
+    let f : SFits w32 c.args.source.now.shift.down = search rules in
     simp (to_z-of_z, f) at c.overlap_of-counting.ensures in
-    let right-overlaps : Overlapping c.args.size.columns c.args.shift.right along =
-    let f : SFits w32 c.args.shift.right = record { sfits = c.struct_told-1.given.1.0.1 } in
+    let right-overlaps : Overlapping c.args.source.now.size.columns c.args.source.now.shift.right along =
+    let f : SFits w32 c.args.source.now.shift.right = search rules in
     simp (to_z-of_z, f) at c.overlap_of-along.ensures in
     let two = c in
     let s = c in

@@ -9,6 +9,3 @@ use Rattle.corners.proofs.row_by_row.Given as goal
 
 abbrev pub invariant-loop-m : goal.invariant-loop-m
 invariant-loop-m l = (l.initial.m ≤ l.m) × (l.m ≤ l.end) × (l.sum ≡ wrap (sum_to (l.m - l.initial.m) (λ k. row_part l.size l.table (shape_of l.window) l.row l.column (l.initial.m + k))))
-
-abbrev pub decreases-loop-m : goal.decreases-loop-m
-decreases-loop-m l = l.end - l.m

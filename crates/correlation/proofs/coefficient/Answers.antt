@@ -23,7 +23,7 @@ use Rattle.statistics.specs.Limits.{Correlated}
 use Rattle.statistics.proofs.Bounds.{Possible, answers}
 use Rattle.statistics.proofs.Values.{magnitude-bound}
 use Rattle.statistics.proofs.Inner.{coefficient-correlated}
-use Rattle.statistics.proofs.Answers.{Taken, vf-is, vg-is, c-is, refused-tells, empty-tells, given-tells, passes_on}
+use Rattle.statistics.proofs.Answers.{coefficient-refusal, Taken, vf-is, vg-is, c-is, refused-tells, empty-tells, given-tells, passes_on}
 use Rattle.correlation.proofs.coefficient.Goals as goal
 
 module _ (z : Sums) (p : Possible z) where
@@ -61,13 +61,13 @@ signed-positive (negsuc c) n e = let y : ◌≡◌ {A = ℕ} 0 1 = cc in absurd 
 
 pub returns-then-m-eq0 : goal.returns-then-m-eq0
 returns-then-m-eq0 c =
-    let taken : Taken c.args.z c.in-Given.m = given-tells c.args.z _ _ c.central_moments.ensures c.in-Given.is in
+    let taken : Taken c.args.z c.in-Some.m = given-tells c.args.z _ _ c.in_ok-m.ensures c.in-Some.is in
     let t = taken in
     answers-flat-f c.args.z t.possible t.some_cell (sym (vf-is _ _ t) ∙ c.if-m-eq0.true)
 
 pub returns-then-m-eq0-2 : goal.returns-then-m-eq0-2
 returns-then-m-eq0-2 c =
-    let taken : Taken c.args.z c.in-Given.m = given-tells c.args.z _ _ c.central_moments.ensures c.in-Given.is in
+    let taken : Taken c.args.z c.in-Some.m = given-tells c.args.z _ _ c.in_ok-m.ensures c.in-Some.is in
     let sums : Sums = c.args.z in
     let some-f : nat_abs (Vf sums) ≡ 0 → ⊥ = λ e. c.if-m-eq0.false (vf-is _ _ taken ∙ e) in
     let t = taken in
@@ -78,14 +78,14 @@ correlated z x y e d p f g = rw (e, d) (coefficient-correlated z p f g)
 
 pub wide_root-largest-requires : goal.wide_root-largest-requires
 wide_root-largest-requires c =
-    let taken : Taken c.args.z c.in-Given.m = given-tells c.args.z _ _ c.central_moments.ensures c.in-Given.is in
+    let taken : Taken c.args.z c.in-Some.m = given-tells c.args.z _ _ c.in_ok-m.ensures c.in-Some.is in
     let sums : Sums = c.args.z in
     let some-f : nat_abs (Vf sums) ≡ 0 → ⊥ = λ e. c.if-m-eq0.false (vf-is _ _ taken ∙ e) in
     let some-g : nat_abs (Vg sums) ≡ 0 → ⊥ = λ e. c.if-m-eq0-2.false (vg-is _ _ taken ∙ e) in
-    let fits-c : SFits w64 c.in-Given.m.c = search rules in
-    let product_is : value c.multiply-in-Given.result ≡ nat_abs (Vf sums) * nat_abs (Vg sums) =
+    let fits-c : SFits w64 c.in-Some.m.c = search rules in
+    let product_is : value c.multiply-2.result ≡ nat_abs (Vf sums) * nat_abs (Vg sums) =
     let t = taken in
-    c.multiply-in-Given.ensures ∙ ap₂ (λ (x y : ℕ). x * y) (vf-is _ _ t) (vg-is _ _ t) in
+    c.multiply-2.ensures ∙ ap₂ (λ (x y : ℕ). x * y) (vf-is _ _ t) (vg-is _ _ t) in
     let square-is : scaled_value c.scale.result ≡ 1000000 * (nat_abs (covariance sums) * nat_abs (covariance sums)) =
     let size = (simp (to_z-of_z, fits-c) at c.magnitude-size.ensures) ∙ ap nat_abs (c-is _ _ taken) in
     c.scale.ensures ∙ ap (λ (n : ℕ). 1000000 * n) (c.multiply.ensures ∙ ap (λ (n : ℕ). n * n) size) in
@@ -97,14 +97,14 @@ minus-fits n h = fits64 (pos 0 -ℤ pos n) (omega (arith, size-sub (pos 0) (pos 
 pub returns-then-m-lt0 : goal.returns-then-m-lt0
 unfolding magnitude
 returns-then-m-lt0 c =
-    let taken : Taken c.args.z c.in-Given.m = given-tells c.args.z _ _ c.central_moments.ensures c.in-Given.is in
+    let taken : Taken c.args.z c.in-Some.m = given-tells c.args.z _ _ c.in_ok-m.ensures c.in-Some.is in
     let sums : Sums = c.args.z in
     let some-f : nat_abs (Vf sums) ≡ 0 → ⊥ = λ e. c.if-m-eq0.false (vf-is _ _ taken ∙ e) in
     let some-g : nat_abs (Vg sums) ≡ 0 → ⊥ = λ e. c.if-m-eq0-2.false (vg-is _ _ taken ∙ e) in
-    let fits-c : SFits w64 c.in-Given.m.c = search rules in
-    let product_is : value c.multiply-in-Given.result ≡ nat_abs (Vf sums) * nat_abs (Vg sums) =
+    let fits-c : SFits w64 c.in-Some.m.c = search rules in
+    let product_is : value c.multiply-2.result ≡ nat_abs (Vf sums) * nat_abs (Vg sums) =
     let t = taken in
-    c.multiply-in-Given.ensures ∙ ap₂ (λ (x y : ℕ). x * y) (vf-is _ _ t) (vg-is _ _ t) in
+    c.multiply-2.ensures ∙ ap₂ (λ (x y : ℕ). x * y) (vf-is _ _ t) (vg-is _ _ t) in
     let square-is : scaled_value c.scale.result ≡ 1000000 * (nat_abs (covariance sums) * nat_abs (covariance sums)) =
     let size = (simp (to_z-of_z, fits-c) at c.magnitude-size.ensures) ∙ ap nat_abs (c-is _ _ taken) in
     c.scale.ensures ∙ ap (λ (n : ℕ). 1000000 * n) (c.multiply.ensures ∙ ap (λ (n : ℕ). n * n) size) in
@@ -114,34 +114,34 @@ returns-then-m-lt0 c =
     let g = some-g in
     omega (arith, root_is, magnitude-bound sums taken.possible (mul-pos (omega arith) (omega arith))) in
     let root-signed : to_z w64 c.wide_root-largest.result ≡ pos c.wide_root-largest.result = to_z_pos w64 (omega (arith, root-small)) in
-    let answer : (x : ℤ) → x ≡ signed c.in-Given.m.c c.wide_root-largest.result → answered (coefficients.value x) ≡ coefficient_call sums =
+    let answer : (x : ℤ) → x ≡ signed c.in-Some.m.c c.wide_root-largest.result → answered (coefficients.value x) ≡ coefficient_call sums =
     λ x e. let t = taken in
     answers-value sums t.possible t.some_cell some-f some-g x (e ∙ ap₂ signed (c-is _ _ t) root_is) in
     simp (root-signed, to_z-of_z, minus-fits _ root-small)
-    (answer _ (signed-negative c.in-Given.m.c _ (simp (to_z-of_z, fits-c) at c.if-m-lt0.true)))
+    (answer _ (signed-negative c.in-Some.m.c _ (simp (to_z-of_z, fits-c) at c.if-m-lt0.true)))
 
 -- ---- the other answers
-pub returns-in-Refused : goal.returns-in-Refused
+pub returns-in_err-m : goal.returns-in_err-m
 unfolding coefficient_call
-returns-in-Refused c =
-    passes_on c.args.z _ _ (refused-tells _ _ _ c.central_moments.ensures c.in-Refused.is)
+returns-in_err-m c =
+    coefficient-refusal _ _ _ c.from_residual.ensures.1 (passes_on c.args.z _ _ (refused-tells _ _ c.in_err-m.ensures))
 
-pub returns-in-Empty : goal.returns-in-Empty
-returns-in-Empty c =
-    let e = empty-tells _ _ c.central_moments.ensures c.in-Empty.is in
+pub returns-in_default : goal.returns-in_default
+returns-in_default c =
+    let e = empty-tells _ _ c.in_ok-m.ensures c.in_default.is in
     answers-empty c.args.z e.possible e.is
 
-pub returns-else-m-lt0 : goal.returns-else-m-lt0
+pub returns : goal.returns
 unfolding magnitude
-returns-else-m-lt0 c =
-    let taken : Taken c.args.z c.in-Given.m = given-tells c.args.z _ _ c.central_moments.ensures c.in-Given.is in
+returns c =
+    let taken : Taken c.args.z c.in-Some.m = given-tells c.args.z _ _ c.in_ok-m.ensures c.in-Some.is in
     let sums : Sums = c.args.z in
     let some-f : nat_abs (Vf sums) ≡ 0 → ⊥ = λ e. c.if-m-eq0.false (vf-is _ _ taken ∙ e) in
     let some-g : nat_abs (Vg sums) ≡ 0 → ⊥ = λ e. c.if-m-eq0-2.false (vg-is _ _ taken ∙ e) in
-    let fits-c : SFits w64 c.in-Given.m.c = search rules in
-    let product_is : value c.multiply-in-Given.result ≡ nat_abs (Vf sums) * nat_abs (Vg sums) =
+    let fits-c : SFits w64 c.in-Some.m.c = search rules in
+    let product_is : value c.multiply-2.result ≡ nat_abs (Vf sums) * nat_abs (Vg sums) =
     let t = taken in
-    c.multiply-in-Given.ensures ∙ ap₂ (λ (x y : ℕ). x * y) (vf-is _ _ t) (vg-is _ _ t) in
+    c.multiply-2.ensures ∙ ap₂ (λ (x y : ℕ). x * y) (vf-is _ _ t) (vg-is _ _ t) in
     let square-is : scaled_value c.scale.result ≡ 1000000 * (nat_abs (covariance sums) * nat_abs (covariance sums)) =
     let size = (simp (to_z-of_z, fits-c) at c.magnitude-size.ensures) ∙ ap nat_abs (c-is _ _ taken) in
     c.scale.ensures ∙ ap (λ (n : ℕ). 1000000 * n) (c.multiply.ensures ∙ ap (λ (n : ℕ). n * n) size) in
@@ -151,7 +151,7 @@ returns-else-m-lt0 c =
     let g = some-g in
     omega (arith, root_is, magnitude-bound sums taken.possible (mul-pos (omega arith) (omega arith))) in
     let root-signed : to_z w64 c.wide_root-largest.result ≡ pos c.wide_root-largest.result = to_z_pos w64 (omega (arith, root-small)) in
-    let answer : (x : ℤ) → x ≡ signed c.in-Given.m.c c.wide_root-largest.result → answered (coefficients.value x) ≡ coefficient_call sums =
+    let answer : (x : ℤ) → x ≡ signed c.in-Some.m.c c.wide_root-largest.result → answered (coefficients.value x) ≡ coefficient_call sums =
     λ x e. let t = taken in
     answers-value sums t.possible t.some_cell some-f some-g x (e ∙ ap₂ signed (c-is _ _ t) root_is) in
-    simp root-signed (answer _ (signed-positive c.in-Given.m.c _ (simp (to_z-of_z, fits-c) at c.if-m-lt0.false)))
+    simp root-signed (answer _ (signed-positive c.in-Some.m.c _ (simp (to_z-of_z, fits-c) at c.if-m-lt0.false)))

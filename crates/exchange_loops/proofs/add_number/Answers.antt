@@ -1,8 +1,7 @@
 -- `exchange_loops::add_number` meets its contract. Assumes nothing.
-use native.Mathlib.Omega.{arith}
-use mir.Facts.{to_z-of_z}
-use Rattle.numbers.proofs.Writes.{at, upto_all}
+use Rattle.std.proofs.Common.{rules}
+use Rattle.exchange_loops.proofs.Adding.{added_all}
 use Rattle.exchange_loops.proofs.add_number.Goals as goal
 
 pub returns : goal.returns
-returns c = simp (to_z-of_z, c.ranges.by) at (upto_all c.loop-k.invariant (omega arith))
+returns c = added_all _ _ _ _ c.add_each.ensures (λ k x h p. search rules)

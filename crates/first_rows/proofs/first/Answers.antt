@@ -8,6 +8,7 @@ use lib.Seq.{length-take-le}
 use Rattle.numbers.proofs.Grids.{length-tabulate}
 use Rattle.picture.specs.Window.{shape_of, height}
 use Rattle.picture.specs.Picture.{Source, source, plane_at}
+use Rattle.picture.specs.Given.{source_of}
 use Rattle.picture.specs.Direct.{direct_sum}
 use Rattle.picture.proofs.Refusals.{in-limits}
 use Rattle.picture.proofs.Planes.{plane-bound}
@@ -15,27 +16,27 @@ use Rattle.steps.proofs.Columns.{columns-none, columns-plus, reached, windows-al
 use Rattle.first_rows.proofs.first.Goals as goal
 
 pub high-end-requires : goal.high-end-requires
-high-end-requires c = omega (arith, (in-limits c.args.size c.requires.inputs.size).some_rows)
+high-end-requires c = omega (arith, (in-limits c.args.inputs.now.source.size c.requires.inputs.size).some_rows)
 
 pub loop-m-init : goal.loop-m-init
 loop-m-init c =
-    let pictures : Source = source c.args.size c.args.f.now c.args.g.now c.args.shift c.args.plane in
-    let rows : ℕ → ℕ → ℤ = reached c.args.size (plane_at pictures) (shape_of c.args.window) in
-    (omega arith, c.requires.room, refl, columns-none rows c.args.size.columns _ _ c.requires.room_work c.fill.ensures)
+    let pictures : Source = source_of c.args.inputs.now.source in
+    let rows : ℕ → ℕ → ℤ = reached c.args.inputs.now.source.size (plane_at pictures) (shape_of c.args.inputs.now.window) in
+    (omega arith, c.requires.room, refl, columns-none rows c.args.inputs.now.source.size.columns _ _ c.requires.room_work c.fill.ensures)
 
 pub slice_bounds-cells-end : goal.slice_bounds-cells-end
 slice_bounds-cells-end c =
-    let few : c.args.size.columns ≤ 1024 = (in-limits c.args.size c.requires.inputs.size).few_columns in
+    let few : c.args.inputs.now.source.size.columns ≤ 1024 = (in-limits c.args.inputs.now.source.size c.requires.inputs.size).few_columns in
     omega (arith, few, c.loop-m.invariant.2)
 
 pub slice_bounds-reaching-end : goal.slice_bounds-reaching-end
 slice_bounds-reaching-end c =
-    let few : c.args.size.columns ≤ 1024 = (in-limits c.args.size c.requires.inputs.size).few_columns in
+    let few : c.args.inputs.now.source.size.columns ≤ 1024 = (in-limits c.args.inputs.now.source.size c.requires.inputs.size).few_columns in
     sym (length-take-le _ _ (omega (arith, few, c.loop-m.invariant.2)))
 
 pub reaching-requires : goal.reaching-requires
 reaching-requires c =
-    let few : c.args.size.columns ≤ 1024 = (in-limits c.args.size c.requires.inputs.size).few_columns in
+    let few : c.args.inputs.now.source.size.columns ≤ 1024 = (in-limits c.args.inputs.now.source.size c.requires.inputs.size).few_columns in
     let l = c.loop-m in
     record {
       step = record {
@@ -49,22 +50,22 @@ reaching-requires c =
 
 pub loop-m-preserved : goal.loop-m-preserved
 loop-m-preserved c =
-    let pictures : Source = source c.args.size c.args.f.now c.args.g.now c.args.shift c.args.plane in
-    let rows : ℕ → ℕ → ℤ = reached c.args.size (plane_at pictures) (shape_of c.args.window) in
-    let few : c.args.size.columns ≤ 1024 = (in-limits c.args.size c.requires.inputs.size).few_columns in
+    let pictures : Source = source_of c.args.inputs.now.source in
+    let rows : ℕ → ℕ → ℤ = reached c.args.inputs.now.source.size (plane_at pictures) (shape_of c.args.inputs.now.window) in
+    let few : c.args.inputs.now.source.size.columns ≤ 1024 = (in-limits c.args.inputs.now.source.size c.requires.inputs.size).few_columns in
     let l = c.loop-m in
     let call = c.reaching in (
       omega (arith, c.loop-m-test.true),
       call.auto.row ∙ l.invariant.1,
-      length-append call.new.cells (drop c.args.size.columns l.cells) ∙ omega (arith, call.auto.cells, length-take-le c.args.size.columns l.cells (omega (arith, few, l.invariant.2)), length-drop c.args.size.columns l.cells, few, l.invariant.2),
-      columns-plus rows c.args.size.columns l.m _ _ l.invariant.3 call.ensures,
+      length-append call.new.cells (drop c.args.inputs.now.source.size.columns l.cells) ∙ omega (arith, call.auto.cells, length-take-le c.args.inputs.now.source.size.columns l.cells (omega (arith, few, l.invariant.2)), length-drop c.args.inputs.now.source.size.columns l.cells, few, l.invariant.2),
+      columns-plus rows c.args.inputs.now.source.size.columns l.m _ _ l.invariant.3 call.ensures,
     )
 
 pub returns : goal.returns
 unfolding direct_sum
 returns c =
-    let pictures : Source = source c.args.size c.args.f.now c.args.g.now c.args.shift c.args.plane in
+    let pictures : Source = source_of c.args.inputs.now.source in
     let l = c.loop-m in
     let x = c.requires.inputs in
-    let end : l.m ≡ min (suc (0 + height (shape_of c.args.window))) c.args.size.rows = omega (arith, l.invariant.0, c.loop-m-test.false) ∙ c.high-end.ensures ∙ ap (λ (a : ℕ). min (suc (0 + a)) c.args.size.rows) c.height.ensures in
-    windows-all c.args.size (plane_at pictures) (in-limits c.args.size x.size) (plane-bound pictures x.levels_f x.levels_g) (shape_of c.args.window) l.m _ end l.invariant.3
+    let end : l.m ≡ min (suc (0 + height (shape_of c.args.inputs.now.window))) c.args.inputs.now.source.size.rows = omega (arith, l.invariant.0, c.loop-m-test.false) ∙ c.high-end.ensures ∙ ap (λ (a : ℕ). min (suc (0 + a)) c.args.inputs.now.source.size.rows) c.height.ensures in
+    windows-all c.args.inputs.now.source.size (plane_at pictures) (in-limits c.args.inputs.now.source.size x.size) (plane-bound pictures x.levels_f x.levels_g) (shape_of c.args.inputs.now.window) l.m _ end l.invariant.3

@@ -8,7 +8,8 @@ use lib.ListN.{length, take, drop, replicate}
 use lib.Seq.{length-take-le}
 use Rattle.numbers.specs.Wrap.{wrap}
 use Rattle.numbers.proofs.Grids.{length-tabulate}
-use Rattle.picture.specs.Picture.{source, plane_at}
+use Rattle.picture.specs.Picture.{plane_at}
+use Rattle.picture.specs.Given.{source_of}
 use Rattle.picture.proofs.Refusals.{in-limits}
 use Rattle.numbers.proofs.Running.{wrap-wrap}
 use Rattle.numbers.proofs.Writes.{at, tabulate-at}
@@ -18,29 +19,29 @@ use Rattle.flat.proofs.flat.Goals as goal
 
 pub returns-then-k-eq0 : goal.returns-then-k-eq0
 returns-then-k-eq0 c =
-    let plane : ℕ → ℕ → ℤ = plane_at (source c.args.size c.args.f.now c.args.g.now c.args.shift c.args.plane) in
-    let gains : ℕ → ℤ = enter_leave c.args.size plane c.args.i c.args.h in
-    added-alone c.args.size.columns c.args.k gains c.args.work.now _ c.if-k-eq0.true c.add_gain.ensures
+    let plane : ℕ → ℕ → ℤ = plane_at (source_of c.args.source.now) in
+    let gains : ℕ → ℤ = enter_leave c.args.source.now.size plane c.args.i c.args.h in
+    added-alone c.args.source.now.size.columns c.args.k gains c.args.work.now _ c.if-k-eq0.true c.add_gain.ensures
 
 pub slice_bounds-change-end : goal.slice_bounds-change-end
 slice_bounds-change-end c =
-    let few : c.args.size.columns ≤ 1024 = (in-limits c.args.size c.requires.row.size).few_columns in
+    let few : c.args.source.now.size.columns ≤ 1024 = (in-limits c.args.source.now.size c.requires.row.size).few_columns in
     few
 
 pub slice_bounds-gain-end : goal.slice_bounds-gain-end
 slice_bounds-gain-end c =
-    let few : c.args.size.columns ≤ 1024 = (in-limits c.args.size c.requires.row.size).few_columns in
+    let few : c.args.source.now.size.columns ≤ 1024 = (in-limits c.args.source.now.size c.requires.row.size).few_columns in
     sym (length-take-le _ _ few)
 
 pub gain-requires : goal.gain-requires
 gain-requires c =
-    let few : c.args.size.columns ≤ 1024 = (in-limits c.args.size c.requires.row.size).few_columns in
+    let few : c.args.source.now.size.columns ≤ 1024 = (in-limits c.args.source.now.size c.requires.row.size).few_columns in
     let r = c.requires.row in
     record { size = r.size; length_f = r.length_f; length_g = r.length_g; row = r.row; distance = r.distance; room = length-take-le _ _ few }
 
 pub slice_bounds-change-end-2 : goal.slice_bounds-change-end-2
 slice_bounds-change-end-2 c =
-    let columns : ℕ = c.args.size.columns in
+    let columns : ℕ = c.args.source.now.size.columns in
     let change : List ℤ = c.gain.new.row in
     let rest : List ℤ = drop columns (replicate 1024 (pos 0)) in
     let changes : length change ≡ columns = ap length c.gain.ensures ∙ length-tabulate _ _ in
@@ -48,7 +49,7 @@ slice_bounds-change-end-2 c =
 
 pub slice_bounds-across-end : goal.slice_bounds-across-end
 slice_bounds-across-end c =
-    let columns : ℕ = c.args.size.columns in
+    let columns : ℕ = c.args.source.now.size.columns in
     let change : List ℤ = c.gain.new.row in
     let rest : List ℤ = drop columns (replicate 1024 (pos 0)) in
     let changes : length change ≡ columns = ap length c.gain.ensures ∙ length-tabulate _ _ in
@@ -58,7 +59,7 @@ slice_bounds-across-end c =
 
 pub across-requires : goal.across-requires
 across-requires c =
-    let columns : ℕ = c.args.size.columns in
+    let columns : ℕ = c.args.source.now.size.columns in
     let change : List ℤ = c.gain.new.row in
     let rest : List ℤ = drop columns (replicate 1024 (pos 0)) in
     let changes : length change ≡ columns = ap length c.gain.ensures ∙ length-tabulate _ _ in
@@ -68,9 +69,9 @@ across-requires c =
 
 pub returns : goal.returns
 returns c =
-    let plane : ℕ → ℕ → ℤ = plane_at (source c.args.size c.args.f.now c.args.g.now c.args.shift c.args.plane) in
-    let gains : ℕ → ℤ = enter_leave c.args.size plane c.args.i c.args.h in
-    let columns : ℕ = c.args.size.columns in
+    let plane : ℕ → ℕ → ℤ = plane_at (source_of c.args.source.now) in
+    let gains : ℕ → ℤ = enter_leave c.args.source.now.size plane c.args.i c.args.h in
+    let columns : ℕ = c.args.source.now.size.columns in
     let change : List ℤ = c.gain.new.row in
     let rest : List ℤ = drop columns (replicate 1024 (pos 0)) in
     let changes : length change ≡ columns = ap length c.gain.ensures ∙ length-tabulate _ _ in
@@ -79,4 +80,4 @@ returns c =
     let gained : (m : ℕ) → m < columns → wrap (at given m) ≡ wrap (gains m) =
     λ m m-below. ap (λ (l : List ℤ). wrap (at l m)) (front columns change rest changes)
     ∙ ap wrap (tabulate-at change _ _ c.gain.ensures m (omega (arith, changes))) ∙ wrap-wrap (gains m) in
-    added-across c.args.size.columns c.args.k gains c.args.work.now _ given _ (sym lent) gained c.across.ensures c.requires.row.room c.add.ensures
+    added-across c.args.source.now.size.columns c.args.k gains c.args.work.now _ given _ (sym lent) gained c.across.ensures c.requires.row.room c.add.ensures

@@ -1,6 +1,5 @@
 -- What the loops of `level_sums::next_levels` keep. Assumes nothing.
 use mathlib.Core.Path.{◌≡◌}
-use Prim.Native.Nat.{◌-◌}
 use Rattle.numbers.specs.Sum.{sum_to}
 use Rattle.numbers.specs.Wrap.{wrap}
 use Rattle.numbers.proofs.Writes.{at}
@@ -9,6 +8,3 @@ use Rattle.level_sums.proofs.next_levels.Given as goal
 
 abbrev pub invariant-loop-j : goal.invariant-loop-j
 invariant-loop-j l = (l.sum ≡ wrap (sum_to l.j (at l.levels))) × Written l.columns l.start (at l.levels) l.initial.table l.table l.j
-
-abbrev pub decreases-loop-j : goal.decreases-loop-j
-decreases-loop-j l = l.columns - l.j

@@ -1,6 +1,6 @@
 -- What the loops of `mean_rows::every_row` keep. Assumes nothing.
 use mathlib.Core.Path.{◌≡◌}
-use Prim.Native.Nat.{◌-◌, ◌*◌, ◌≤◌}
+use Prim.Native.Nat.{◌*◌, ◌≤◌}
 use lib.ListN.{length}
 use Rattle.numbers.proofs.Lines.{Lines}
 use Rattle.statistics.specs.SixSums.{on_plane, six_sums}
@@ -10,9 +10,6 @@ use Rattle.blocks.specs.Blocks.{Held}
 use Rattle.mean_rows.proofs.every_row.Given as goal
 
 abbrev pub invariant-loop-i : goal.invariant-loop-i
-invariant-loop-i l = let x = alone l.size l.f l.window in
+invariant-loop-i l = let x = alone l.fn.size l.f l.fn.window in
     Lines (λ i j. mean (six_sums x i j)) l.columns l.out l.i × (l.start ≡ l.i * l.columns) × (length l.counts ≡ l.columns) × (length l.totals ≡ l.columns) × (length l.n ≡ 16 * l.columns) × (length l.s ≡ 16 * l.columns) × (length l.out ≡ length l.initial.out)
     × Held (on_plane x 0) l.i l.counts l.n × Held (on_plane x 1) l.i l.totals l.s × (l.i ≤ l.rows)
-
-abbrev pub decreases-loop-i : goal.decreases-loop-i
-decreases-loop-i l = l.rows - l.i

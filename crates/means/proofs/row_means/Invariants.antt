@@ -1,7 +1,5 @@
 -- What the loops of `means::row_means` keep. Assumes nothing.
 use mathlib.Core.Path.{◌≡◌}
-use Prim.Native.Nat.{◌-◌}
-use lib.ListN.{length}
 use lib.IntN.{nat_abs}
 use Rattle.numbers.specs.Round.{nearest}
 use Rattle.numbers.proofs.Writes.{at, Upto}
@@ -10,6 +8,3 @@ use Rattle.means.proofs.row_means.Given as goal
 
 abbrev pub invariant-loop-j : goal.invariant-loop-j
 invariant-loop-j l = Upto (λ k. nearest (at l.s k) (nat_abs (at l.n k))) l.initial.out l.out l.j × (l.by ≡ reciprocal l.last)
-
-abbrev pub decreases-loop-j : goal.decreases-loop-j
-decreases-loop-j l = length l.initial.out - l.j

@@ -8,6 +8,7 @@ use mir.Syntax.{w64}
 use mir.Val.{to_z}
 use mir.Facts.{to_z_pos}
 use Rattle.picture.specs.Refusal.{answered}
+use Rattle.picture.proofs.Refusals.{optional-refusal}
 use Rattle.statistics.specs.declared.Sums.{Sums}
 use Rattle.statistics.specs.SixSums.{count}
 use Rattle.statistics.specs.Moments.{deviation, deviation_call}
@@ -24,35 +25,35 @@ whole z d p h e =
 
 pub overflow_mul-m : goal.overflow_mul-m
 overflow_mul-m c =
-    let taken : Taken c.args.z c.in-Given.m = given-tells c.args.z _ _ c.central_moments.ensures c.in-Given.is in
+    let taken : Taken c.args.z c.in-Some.m = given-tells c.args.z _ _ c.in_ok-m.ensures c.in-Some.is in
     let t = taken in record { fits = omega (arith, square-small _ t.possible _ (count-is _ _ t)) }
 
 pub whole_root-requires : goal.whole_root-requires
 whole_root-requires c =
-    let taken : Taken c.args.z c.in-Given.m = given-tells c.args.z _ _ c.central_moments.ensures c.in-Given.is in
+    let taken : Taken c.args.z c.in-Some.m = given-tells c.args.z _ _ c.in_ok-m.ensures c.in-Some.is in
     let t = taken in deviation-ratio _ t.possible _ (count-is _ _ t) _ (vf-is _ _ t) (count-some _ _ t)
 
 pub overflow_cast-result : goal.overflow_cast-result
 overflow_cast-result c =
-    let taken : Taken c.args.z c.in-Given.m = given-tells c.args.z _ _ c.central_moments.ensures c.in-Given.is in
+    let taken : Taken c.args.z c.in-Some.m = given-tells c.args.z _ _ c.in_ok-m.ensures c.in-Some.is in
     let root_is : c.whole_root.result ≡ deviation c.args.z = let t = taken in deviation-found _ t.possible _ (count-is _ _ t) _ _ (vf-is _ _ t) c.whole_root.ensures in
     let t = taken in
     let h = t.some_cell in
     record { sfits = omega (arith, root_is, deviation-bound _ t.possible (omega arith)) }
 
-pub returns-in-Refused : goal.returns-in-Refused
+pub returns-in_err-m : goal.returns-in_err-m
 unfolding deviation_call
-returns-in-Refused c =
-    passes_on c.args.z _ _ (refused-tells _ _ _ c.central_moments.ensures c.in-Refused.is)
+returns-in_err-m c =
+    optional-refusal _ _ _ c.from_residual.ensures.1 (passes_on c.args.z _ _ (refused-tells _ _ c.in_err-m.ensures))
 
-pub returns-in-Empty : goal.returns-in-Empty
+pub returns-in_default : goal.returns-in_default
 unfolding deviation_call
-returns-in-Empty c =
-    let e = empty-tells _ _ c.central_moments.ensures c.in-Empty.is in
+returns-in_default c =
+    let e = empty-tells _ _ c.in_ok-m.ensures c.in_default.is in
     answers-empty c.args.z _ e.possible e.is
 
-pub returns-in-Given : goal.returns-in-Given
-returns-in-Given c =
-    let taken : Taken c.args.z c.in-Given.m = given-tells c.args.z _ _ c.central_moments.ensures c.in-Given.is in
+pub returns : goal.returns
+returns c =
+    let taken : Taken c.args.z c.in-Some.m = given-tells c.args.z _ _ c.in_ok-m.ensures c.in-Some.is in
     let root_is : c.whole_root.result ≡ deviation c.args.z = let t = taken in deviation-found _ t.possible _ (count-is _ _ t) _ _ (vf-is _ _ t) c.whole_root.ensures in
     let t = taken in whole _ _ t.possible t.some_cell root_is

@@ -7,6 +7,7 @@ use mir.Syntax.{w64}
 use mir.Val.{SFits}
 use mir.Facts.{to_z-of_z}
 use Rattle.picture.specs.Refusal.{answered}
+use Rattle.picture.proofs.Refusals.{optional-refusal}
 use Rattle.statistics.specs.declared.Sums.{Sums}
 use Rattle.statistics.specs.SixSums.{count}
 use Rattle.statistics.specs.Moments.{mean, mean_call}
@@ -22,25 +23,25 @@ whole z m p h e = ap (λ (x : ℤ). answered (some x)) e ∙ answers-some z (mea
 pub nearest-requires : goal.nearest-requires
 nearest-requires c =
     let fits-s : SFits w64 c.args.z.s = search rules in
-    let taken : Taken c.args.z c.in-Given.m = given-tells c.args.z _ _ c.central_moments.ensures c.in-Given.is in
+    let taken : Taken c.args.z c.in-Some.m = given-tells c.args.z _ _ c.in_ok-m.ensures c.in-Some.is in
     let t = taken in
     simp (to_z-of_z, fits-s) (mean-quotient _ t.possible _ (count-is _ _ t) (count-some _ _ t))
 
-pub returns-in-Refused : goal.returns-in-Refused
+pub returns-in_err-m : goal.returns-in_err-m
 unfolding mean_call
-returns-in-Refused c =
-    passes_on c.args.z _ _ (refused-tells _ _ _ c.central_moments.ensures c.in-Refused.is)
+returns-in_err-m c =
+    optional-refusal _ _ _ c.from_residual.ensures.1 (passes_on c.args.z _ _ (refused-tells _ _ c.in_err-m.ensures))
 
-pub returns-in-Empty : goal.returns-in-Empty
+pub returns-in_default : goal.returns-in_default
 unfolding mean_call
-returns-in-Empty c =
-    let e = empty-tells _ _ c.central_moments.ensures c.in-Empty.is in
+returns-in_default c =
+    let e = empty-tells _ _ c.in_ok-m.ensures c.in_default.is in
     answers-empty c.args.z _ e.possible e.is
 
-pub returns-in-Given : goal.returns-in-Given
-returns-in-Given c =
+pub returns : goal.returns
+returns c =
     let fits-s : SFits w64 c.args.z.s = search rules in
-    let taken : Taken c.args.z c.in-Given.m = given-tells c.args.z _ _ c.central_moments.ensures c.in-Given.is in
+    let taken : Taken c.args.z c.in-Some.m = given-tells c.args.z _ _ c.in_ok-m.ensures c.in-Some.is in
     let t = taken in
     let fits : SFits w64 c.nearest.result = record { sfits = c.nearest.type_inv } in
     simp (to_z-of_z, fits)

@@ -19,7 +19,7 @@ returns g c =
     let r = c.render-count in
     let read = c.in_ok-n in
     let full : 65537 ≡ length c.read_full.new.text = search rules in
-    let room : 28672 ≤ length c.output-out.result = omega (arith, c.output-out.ensures) in
+    let room : 28672 ≤ length c.area-out.result = omega (arith, c.area-out.ensures) in
     let known = whole (g.R.Read.remaining c.args.from.now) (g.R.Read.remaining c.read_full.new.from) read.n c.read_full.new.text full read.ensures.room read.ensures.bytes read.ensures.end in
     let front = rendered-front _ _ r.new.out r.result room r.ensures.count r.ensures.area in
     prints c.write_all.result (g.R.Read.remaining c.args.from.now) (g.W.Write.contents c.args.to.now) (g.W.Write.contents c.write_all.new.self) _ _ known front c.write_all.ensures.bytes

@@ -1,42 +1,31 @@
 -- `panel_levels::read_levels` meets its contract. Assumes nothing.
-use mathlib.Core.Path.{◌≡◌, sym, ◌∙◌}
-use native.Mathlib.Omega.{arith}
-use mathlib.Core.Bool.{true}
-use borrow.Author.Tests.{not-true, not-false}
-use mir.Facts.{to_z-of_z}
-use mir.Syntax.{w16, w32}
-use mir.Val.{SFits}
-use lib.Dec.{T}
-use Rattle.panel_language.specs.Panel.{is_level}
-use Rattle.panel_language.proofs.Legal.{is-level}
-use Rattle.panel_levels.proofs.Levels.{level-missing, level-beyond, levels-more, levels-extra, levels-all}
-use borrow.Enum.Refused.{opened}
-use Rattle.std.proofs.Common.{ap, not}
+use Rattle.std.proofs.Common.{FitsSigned, w32, rules, sym, ◌∙◌, ap, ◌∷◌}
+use Rattle.std.proofs.lemmas.Int.{to_z-of_z}
+use Rattle.panel_levels.specs.Levels.{levels_told}
+use Rattle.panel_levels.proofs.Levels.{levels-first, level-missing, level-malformed, level-beyond, levels-more, levels-last, beyond-16-bits, within-16-bits}
 use Rattle.panel_levels.proofs.read_levels.Goals as goal
 
-pub returns-in_default : goal.returns-in_default
-returns-in_default c =
-    level-missing _ _ _ _ _ _ c.loop-k.invariant (omega (arith, c.loop-k.invariant.size)) c.next.result c.next.ensures (opened c.in_default.in_default-own.keys2)
+pub loop-level-init : goal.loop-level-init
+loop-level-init c = levels-first _ _
 
-pub returns-then-not-is_between : goal.returns-then-not-is_between
-returns-then-not-is_between c =
-    let fits : SFits w32 c.in-Number.level = record { sfits = c.in-Number.known_told-1-own.given.0.1 } in
-    level-beyond _ _ _ _ _ _ c.loop-k.invariant (omega (arith, c.loop-k.invariant.size)) c.next.result c.next.ensures _ _ c.in-Number.is (sym (simp (to_z-of_z, fits) at c.is_between.ensures) ∙ not-true _ (ap not c.if-not-is_between.true))
+pub returns-in_err-next : goal.returns-in_err-next
+returns-in_err-next c = rw c.from_residual.ensures (level-missing _ _ _ _ _ c.loop-level.invariant c.loop-level-test.true c.in_err-next.ensures.steps.0)
 
-pub loop-k-preserved : goal.loop-k-preserved
-loop-k-preserved c =
-    let fits : SFits w32 c.in-Number.level = record { sfits = c.in-Number.known_told-1-own.given.0.1 } in
-    let taken : is_level c.in-Number.level ≡ true = sym (simp (to_z-of_z, fits) at c.is_between.ensures) ∙ not-false _ (ap not c.if-not-is_between.false) in
-    let small : SFits w16 c.in-Number.level =
-    let t : T (is_level c.in-Number.level) = rw taken tt in
-    record { sfits = is-level c.in-Number.level t } in
-    simp (to_z-of_z, fits, small)
-    (levels-more _ _ _ _ _ _ c.loop-k.invariant (omega (arith, c.loop-k.invariant.size)) c.next.result c.next.ensures _ _ c.in-Number.is taken)
+pub returns-in_err-branch : goal.returns-in_err-branch
+returns-in_err-branch c = rw c.from_residual-in_err-branch.ensures (level-malformed _ _ _ _ _ c.loop-level.invariant c.loop-level-test.true _ (c.in_ok-next.ensures.steps ∙ ap (λ n. n ∷ c.next.new.self) c.in_err-branch.was))
 
-pub returns-in_default-next : goal.returns-in_default-next
-returns-in_default-next c =
-    levels-extra _ _ _ _ _ _ c.loop-k.invariant (omega (arith, c.loop-k.invariant.size)) c.next-2.result c.next-2.ensures (opened c.in_default-next.in_default-next-own.keys2)
+pub returns-in_err-level : goal.returns-in_err-level
+returns-in_err-level c =
+    let fits : FitsSigned w32 c.in_ok-branch.field-0 = search rules in
+    let beyond = beyond-16-bits _ c.try_from.result (simp (to_z-of_z, fits) at c.try_from.ensures) (sym c.in_err-level.was ∙ c.ok.ensures.value) in
+    rw c.from_residual-in_err-level.ensures (level-beyond _ _ _ _ _ c.loop-level.invariant c.loop-level-test.true _ _ (c.in_ok-next.ensures.steps ∙ ap (λ n. n ∷ c.next.new.self) c.in_ok-branch.was) beyond)
+
+pub loop-level-preserved : goal.loop-level-preserved
+loop-level-preserved c =
+    let fits : FitsSigned w32 c.in_ok-branch.field-0 = search rules in
+    let within = within-16-bits _ c.try_from.result _ (simp (to_z-of_z, fits) at c.try_from.ensures) (sym c.in_ok-level.was ∙ c.ok.ensures.value) in
+    simp (to_z-of_z, within.1.1)
+    (rw within.1.0 (levels-more _ _ _ _ _ c.loop-level.invariant c.loop-level-test.true _ _ (c.in_ok-next.ensures.steps ∙ ap (λ n. n ∷ c.next.new.self) c.in_ok-branch.was) within.0))
 
 pub returns : goal.returns
-returns c =
-    levels-all _ _ _ _ _ _ c.loop-k.invariant (omega (arith, c.loop-k.invariant.size)) c.next-2.result c.next-2.ensures c.in-End.is
+returns c = levels-last _ _ _ _ _ c.loop-level.invariant c.loop-level-test.false c.next-2.result _ c.next-2.ensures.steps c.is_none.result c.is_none.ensures ∙ ap (λ r. levels_told r c.loop-level.levels) (sym c.then_some.ensures)

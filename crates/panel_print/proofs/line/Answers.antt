@@ -1,37 +1,30 @@
 -- `panel_print::line` meets its contract. Assumes nothing.
-use Prim.Native.Nat.{◌+◌, ◌≤◌}
-use mathlib.Core.List.{[], ◌∷◌, ◌++◌}
-use mir.Facts.{to_z-of_z}
-use mir.Syntax.{w16}
-use mir.Val.{SFits}
-use Rattle.numbers.proofs.Writes.{at}
-use Rattle.panel_language.specs.Text.{space, line_feed, printed}
-use Rattle.panel_print.specs.Print.{Written}
-use native.Mathlib.Omega.{arith}
-use Rattle.panel_print.proofs.Prints.{line_first, line-more, line-done}
+use Rattle.std.proofs.Common.{◌≡◌, length, rules, arith, pos, FitsSigned, w16, slice_index_or}
+use Rattle.std.proofs.lemmas.Int.{to_z-of_z}
+use Rattle.std.proofs.lemmas.Option.{MatchOption-at_some}
+use Rattle.panel_print.proofs.Prints.{at-front, at-last, line_first, line-room, line-more, line-done}
 use Rattle.panel_print.proofs.line.Goals as goal
 
-pub loop-k-init : goal.loop-k-init
-loop-k-init c = line_first _ _ _ c.requires.some_column
+pub loop-v-init : goal.loop-v-init
+loop-v-init c = line_first _ _ c.requires.some_column
 
-pub loop-k-preserved : goal.loop-k-preserved
-loop-k-preserved c =
-    let wrote : let l = c in Written (printed (at l.args.row.now l.loop-k.k) ++ (space ∷ [])) l.loop-k.out l.loop-k.place c.field-place.new.out c.field-place.result × (c.field-place.result ≤ l.loop-k.place + 7) =
-    let l = c in
-    let f : SFits w16 (at l.args.row.now l.loop-k.k) = record { sfits = c.field-arg-1.given } in
-    simp (to_z-of_z, f) at c.field-place.ensures in
-    let f = c in
-    let l = c in
-    let w = wrote in
-    line-more _ _ _ _ _ _ l.loop-k.invariant _ _ (omega (arith, f.loop-k-test.true, l.requires.some_column)) w.0 w.1
+pub field-len-requires : goal.field-len-requires
+field-len-requires c = line-room _ _ _ _ _ c.loop-v.invariant c.requires
+
+pub loop-v-preserved : goal.loop-v-preserved
+loop-v-preserved c =
+    let parts = MatchOption-at_some _ _ c.unwrap.result c.unwrap.ensures c.split_last.ensures.cases in
+    let fits : FitsSigned w16 (slice_index_or c.unwrap.result.1.now c.loop-v.v-index (pos 0)) = search rules in
+    let w = simp (to_z-of_z, fits) at c.field-len.ensures in
+    line-more _ _ _ _ _ c.loop-v.invariant _ _ (omega (arith, parts.1, c.loop-v-test.true)) (rw (← at-front _ _ _ parts.0 c.loop-v.v-index c.loop-v-test.true) w.0) w.1
+
+pub field-requires : goal.field-requires
+field-requires c = line-room _ _ _ _ _ c.loop-v.invariant c.requires
 
 pub returns : goal.returns
 returns c =
-    let ended : let l = c in Written (printed (at l.args.row.now l.loop-k.k) ++ (line_feed ∷ [])) l.loop-k.out l.loop-k.place c.field.new.out c.field.result × (c.field.result ≤ l.loop-k.place + 7) =
-    let l = c in
-    let f : SFits w16 (at l.args.row.now l.loop-k.k) = record { sfits = c.field-arg-2-1.given } in
-    simp (to_z-of_z, f) at c.field.ensures in
-    let f = c in
-    let l = c in
-    let w = ended in
-    line-done _ _ _ _ _ _ l.loop-k.invariant _ _ (omega (arith, f.loop-k-test.false, l.loop-k.invariant.inside)) w.0 w.1
+    let parts = MatchOption-at_some _ _ c.unwrap.result c.unwrap.ensures c.split_last.ensures.cases in
+    let fits : FitsSigned w16 c.unwrap.result.0.now = search rules in
+    let w = simp (to_z-of_z, fits) at c.field.ensures in
+    let end : c.loop-v.v-index ≡ length c.unwrap.result.1.now = omega (arith, c.loop-v-test.false) in
+    line-done _ _ _ _ _ c.loop-v.invariant _ _ (omega (arith, parts.1, end)) (rw (← at-last _ _ _ parts.0 c.loop-v.v-index end) w.0) w.1

@@ -1,12 +1,12 @@
 -- `panel_print::lines` meets its contract. Assumes nothing.
-use Rattle.panel_print.proofs.Prints.{lines_next, lines-done}
+use Rattle.panel_print.proofs.Prints.{lines_next, lines-first, lines-done}
 use Rattle.panel_print.proofs.lines.Goals as goal
 
+pub loop-i-init : goal.loop-i-init
+loop-i-init c = lines-first _ _ _
+
 pub loop-i-preserved : goal.loop-i-preserved
-loop-i-preserved c =
-    let r = c in
-    let l = c in
-    lines_next _ _ _ _ _ _ _ _ l.requires l.loop-i.invariant r.loop-i-test.true _ _ r.line-at.ensures
+loop-i-preserved c = lines_next _ _ _ _ _ _ c.requires c.loop-i.invariant c.loop-i-test.true _ _ c.line-len.ensures
 
 pub returns : goal.returns
-returns c = lines-done _ _ _ _ _ _ _ _ c.requires c.loop-i.invariant c.loop-i-test.false
+returns c = lines-done _ _ _ _ _ _ c.requires c.loop-i.invariant c.loop-i-test.false

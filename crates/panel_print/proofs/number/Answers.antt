@@ -1,50 +1,34 @@
 -- `panel_print::number` meets its contract. Assumes nothing.
-use mathlib.Core.Path.{◌≡◌, sym, ◌∙◌, ap}
-use native.Mathlib.Omega.{arith}
-use mathlib.Core.List.{◌∷◌, []}
-use lib.ListN.{length, length-set}
+use Rattle.std.proofs.Common.{◌≡◌, sym, ◌∙◌, ap, [], ◌∷◌, ℕ, ◌≤◌, List, set, length, arith}
+use Rattle.panel_print.specs.Print.{Written}
+use lib.ListN.{length-set}
 use lib.IntN.{nat_abs}
 use mir.Facts.{to_z-of_z}
-use Rattle.numbers.proofs.Widths.{fits_16_64}
 use Rattle.panel_language.specs.Text.{minus, decimal}
-use Rattle.panel_print.proofs.Bytes.{printed-plain, printed-signed, level-digits, written_one, written-more, written_is}
+use Rattle.panel_print.proofs.Bytes.{printed-plain, printed-signed, level-digits, nothing, then_byte, room-after, then_bytes, written_is}
 use Rattle.panel_print.proofs.number.Goals as goal
 
 pub digits-requires : goal.digits-requires
 digits-requires c =
-    let size : c.magnitude-size.result ≡ nat_abs c.args.v =
-    let f = c.ranges.v in
-    simp (to_z-of_z, f, fits_16_64 _ f) at c.magnitude-size.ensures in
-    let m = c in
-    let s = c in
-    omega (arith, s.requires, level-digits _ s.ranges.v, ap (λ n. length (decimal n)) size)
+    let size : c.from-size.result ≡ nat_abs c.args.v = c.from-size.ensures ∙ (simp (to_z-of_z, c.ranges.v) at c.unsigned_abs.ensures.value) in
+    omega (arith, c.requires, level-digits _ c.ranges.v, ap (λ n. length (decimal n)) size)
 
 pub returns-then-v-ge0 : goal.returns-then-v-ge0
 returns-then-v-ge0 c =
-    let size : c.magnitude-size.result ≡ nat_abs c.args.v =
-    let f = c.ranges.v in
-    simp (to_z-of_z, f, fits_16_64 _ f) at c.magnitude-size.ensures in
-    let d = c in
-    let m = c in
-    let s = c in
-    written_is _ _ _ _ _ _ (ap decimal size ∙ sym (printed-plain _ (simp (to_z-of_z, s.ranges.v) at d.if-v-ge0.true))) d.digits.ensures
+    let size : c.from-size.result ≡ nat_abs c.args.v = c.from-size.ensures ∙ (simp (to_z-of_z, c.ranges.v) at c.unsigned_abs.ensures.value) in
+    written_is _ _ _ _ _ (ap decimal size ∙ sym (printed-plain _ (simp (to_z-of_z, c.ranges.v) at c.if-v-ge0.true))) c.digits.ensures
+
+-- the minus sign stands first
+sign : (out : List ℕ) → 6 ≤ length out → Written (minus ∷ []) out (set out 0 minus) 1
+sign out h = then_byte _ _ _ _ (nothing out) minus (omega arith)
 
 pub digits-requires-2 : goal.digits-requires-2
 digits-requires-2 c =
-    let size : c.magnitude-size.result ≡ nat_abs c.args.v =
-    let f = c.ranges.v in
-    simp (to_z-of_z, f, fits_16_64 _ f) at c.magnitude-size.ensures in
-    let m = c in
-    let s = c in
-    simp length-set (omega (arith, s.requires, level-digits _ s.ranges.v, ap (λ n. length (decimal n)) size))
+    let size : c.from-size.result ≡ nat_abs c.args.v = c.from-size.ensures ∙ (simp (to_z-of_z, c.ranges.v) at c.unsigned_abs.ensures.value) in
+    omega (arith, room-after _ _ _ _ (sign c.args.out.now c.requires), length-set c.args.out.now 0 minus, c.requires, level-digits _ c.ranges.v, ap (λ n. length (decimal n)) size)
 
 pub returns : goal.returns
 returns c =
-    let size : c.magnitude-size.result ≡ nat_abs c.args.v =
-    let f = c.ranges.v in
-    simp (to_z-of_z, f, fits_16_64 _ f) at c.magnitude-size.ensures in
-    let d = c in
-    let m = c in
-    let s = c in
-    written_is _ _ _ _ _ _ (ap (λ n. minus ∷ decimal n) size ∙ sym (printed-signed _ (simp (to_z-of_z, s.ranges.v) at d.if-v-ge0.false)))
-    (written-more (minus ∷ []) _ _ _ _ _ _ _ (written_one _ _ _) d.digits-2.ensures)
+    let size : c.from-size.result ≡ nat_abs c.args.v = c.from-size.ensures ∙ (simp (to_z-of_z, c.ranges.v) at c.unsigned_abs.ensures.value) in
+    written_is _ _ _ _ _ (ap (λ n. minus ∷ decimal n) size ∙ sym (printed-signed _ (simp (to_z-of_z, c.ranges.v) at c.if-v-ge0.false)))
+    (then_bytes _ _ _ _ (sign c.args.out.now c.requires) _ _ _ c.digits-2.ensures)

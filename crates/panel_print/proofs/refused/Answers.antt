@@ -1,30 +1,27 @@
 -- `panel_print::refused` meets its contract. Assumes nothing.
-use Rattle.panel_print.proofs.Bytes.{few-digits, word-length, refused-written}
-use native.Mathlib.Omega.{arith}
+use Rattle.std.proofs.Common.{◌∙◌, ap, ◌++◌, ◌∷◌, [], append_assoc, arith}
+use Rattle.panel_language.specs.Text.{line_feed, decimal}
+use Rattle.panel_print.proofs.Bytes.{few-digits, word, word-written, room-after, then_byte, then_bytes, written_is, written-length}
 use Rattle.panel_print.proofs.refused.Goals as goal
 
-pub digits-last-requires : goal.digits-last-requires
-digits-last-requires c =
-    let s = c in
-    omega (arith, s.requires, few-digits 9 s.args.n (omega (arith, s.ranges.n)), word-length s.args.out.now)
+pub digits-len-requires : goal.digits-len-requires
+digits-len-requires c =
+    let w = word-written c.args.out.now _ c.copy_from_slice.ensures.after in
+    omega (arith, room-after _ _ _ _ w, written-length _ _ _ _ w (omega (arith, c.requires)), c.requires, few-digits 9 c.from-2.result (omega (arith, c.from-2.ensures, c.from.type_inv)))
 
-pub bounds-out-last : goal.bounds-out-last
-bounds-out-last c =
-    let d = c in
-    let s = c in
-    omega (arith, s.requires, few-digits 9 s.args.n (omega (arith, s.ranges.n)), word-length s.args.out.now, d.digits-last.ensures.place, d.digits-last.auto.out)
-
-pub overflow_add-result : goal.overflow_add-result
-overflow_add-result c =
-    let d = c in
-    let s = c in
-    omega (arith, few-digits 9 s.args.n (omega (arith, s.ranges.n)), d.digits-last.ensures.place)
+pub bounds-out-len : goal.bounds-out-len
+bounds-out-len c =
+    let w = word-written c.args.out.now _ c.copy_from_slice.ensures.after in
+    let both = then_bytes _ _ _ _ w _ _ _ c.digits-len.ensures in
+    let few = few-digits 9 c.from-2.result (omega (arith, c.from-2.ensures, c.from.type_inv)) in
+    omega (arith, written-length _ _ _ _ both (omega (arith, c.requires, few, c.digits-len.ensures.counted)), c.requires, few, c.digits-len.ensures.counted)
 
 pub returns : goal.returns
 returns c =
-    let d = c in
-    let s = c in
+    let w = word-written c.args.out.now _ c.copy_from_slice.ensures.after in
+    let both = then_bytes _ _ _ _ w _ _ _ c.digits-len.ensures in
+    let few = few-digits 9 c.from-2.result (omega (arith, c.from-2.ensures, c.from.type_inv)) in
     record {
-      written = refused-written _ _ _ _ d.digits-last.ensures;
-      inside = omega (arith, s.requires, few-digits 9 s.args.n (omega (arith, s.ranges.n)), d.digits-last.ensures.place);
+      written = written_is _ _ _ _ _ (append_assoc word (decimal c.from-2.result) (line_feed ∷ []) ∙ ap (λ n. word ++ (decimal n ++ (line_feed ∷ []))) (c.from-2.ensures ∙ c.from.ensures)) (then_byte _ _ _ _ both line_feed (omega (arith, c.requires, few, c.digits-len.ensures.counted)));
+      inside = omega (arith, c.requires, few, c.digits-len.ensures.counted);
     }

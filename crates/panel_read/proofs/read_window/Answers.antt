@@ -1,27 +1,29 @@
 -- `panel_read::read_window` meets its contract. Assumes nothing.
-use mir.Facts.{to_z-of_z}
-use mir.Syntax.{w32}
-use mir.Val.{SFits}
+use Rattle.std.proofs.Common.{rules, FitsSigned, w32}
+use Rattle.std.proofs.lemmas.Int.{to_z-of_z}
+use Rattle.std.proofs.lemmas.Result.{err_from_is_err_and}
 use Rattle.panel_read.proofs.Drawings.{no-shape, no-first, no_second, window-read}
-use borrow.Enum.Refused.{opened}
 use Rattle.panel_read.proofs.read_window.Goals as goal
 
-pub returns-in_default : goal.returns-in_default
-returns-in_default c = no-shape _ _ c.next.result c.next.ensures (opened c.in_default.in_default-own.keys2)
+pub returns-in_err-read_number : goal.returns-in_err-read_number
+returns-in_err-read_number c =
+    let p = err_from_is_err_and c.from_residual.result c.from_residual.ensures.1 in
+    rw (p.1, p.2) (no-shape _ _ _ c.in_err-read_number.ensures)
 
-pub returns-in_default-next : goal.returns-in_default-next
-returns-in_default-next c =
-    no-first _ _ c.next.result c.next.ensures _ _ c.in-Number.is c.next-2.result c.next-2.ensures (opened c.in_default-next.in_default-next-own.keys2)
+pub returns-in_err-first : goal.returns-in_err-first
+returns-in_err-first c =
+    let p = err_from_is_err_and c.from_residual-in_err-first.result c.from_residual-in_err-first.ensures.1 in
+    rw (p.1, p.2) (no-first _ _ _ c.in_ok-read_number.ensures _ _ c.in_err-first.ensures)
 
-pub returns-in_default-next-2 : goal.returns-in_default-next-2
-returns-in_default-next-2 c =
-    no_second _ _ c.next.result c.next.ensures _ _ c.in-Number.is c.next-2.result c.next-2.ensures _ _ c.in-Number-next.is c.next-3.result c.next-3.ensures (opened c.in_default-next-2.in_default-next-2-own.keys2)
+pub returns-in_err-second : goal.returns-in_err-second
+returns-in_err-second c =
+    let p = err_from_is_err_and c.from_residual-in_err-second.result c.from_residual-in_err-second.ensures.1 in
+    rw (p.1, p.2) (no_second _ _ _ c.in_ok-read_number.ensures _ _ c.in_ok-first.ensures _ _ c.in_err-second.ensures)
 
 pub returns : goal.returns
 returns c =
-    let shape-fits : SFits w32 c.in-Number.shape = record { sfits = c.in-Number.known_told-1-own.given.0.1 } in
-    let first_fits : SFits w32 c.in-Number-next.first = record { sfits = c.in-Number-next.known_told-in-Number-next-2-1-own.given.0.1 } in
-    let second_fits : SFits w32 c.in-Number-next-2.second = record { sfits = c.in-Number-next-2.known_told-in-Number-next-3-1-own.given.0.1 } in
+    let shape-fits : FitsSigned w32 c.in_ok-read_number.field-0 = search rules in
+    let first_fits : FitsSigned w32 c.in_ok-first.first = search rules in
+    let second_fits : FitsSigned w32 c.in_ok-second.second = search rules in
     simp (to_z-of_z, first_fits, second_fits)
-    (window-read _ _ c.next.result c.next.ensures _ _ c.in-Number.is c.next-2.result c.next-2.ensures _ _ c.in-Number-next.is c.next-3.result c.next-3.ensures _ _ _ c.in-Number-next-2.is
-    (simp (to_z-of_z, shape-fits) at c.count.ensures))
+    (window-read _ _ _ c.in_ok-read_number.ensures _ _ c.in_ok-first.ensures _ _ _ c.in_ok-second.ensures (simp (to_z-of_z, shape-fits) at c.count-shape.ensures))

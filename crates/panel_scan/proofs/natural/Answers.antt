@@ -1,25 +1,34 @@
 -- `panel_scan::natural` meets its contract. Assumes nothing.
-use mathlib.Core.Path.{sym, ◌∙◌, ap}
-use mathlib.Core.Option.{some}
-use native.Mathlib.Omega.{arith}
-use borrow.Author.Tests.{not-true, not-false}
-use lib.IntN.{pos}
-use mir.Syntax.{w32}
-use mir.Facts.{to_z_pos}
-use Rattle.panel_scan.proofs.Numbers.{natural-short, natural-long, natural-other, natural-digits}
-use Rattle.std.proofs.Common.{not}
+use Rattle.std.proofs.Common.{◌∙◌, ◌≤◌, length, rules, tests, arith}
+use Rattle.panel_scan.proofs.Digits.{worth-small, worth-more, natural-outside, natural-other, natural-all}
 use Rattle.panel_scan.proofs.natural.Goals as goal
 
-pub returns-then-run-lt1 : goal.returns-then-run-lt1
-returns-then-run-lt1 c = natural-short _ c.if-run-lt1.true
+pub returns-then-not-contains-clause-value : goal.returns-then-not-contains-clause-value
+returns-then-not-contains-clause-value c = natural-outside _ (search (rules, tests))
 
-pub returns-then-run-gt9 : goal.returns-then-run-gt9
-returns-then-run-gt9 c = natural-long _ c.if-run-lt1.false c.if-run-gt9.true
+pub overflow_mul-value : goal.overflow_mul-value
+overflow_mul-value c =
+    let few : length c.args.run.now ≤ 9 = search (rules, tests) in
+    omega (arith, worth-small _ _ _ 8 c.loop-b.invariant (omega arith))
 
-pub returns-then-not-all_digits : goal.returns-then-not-all_digits
-returns-then-not-all_digits c = natural-other _ c.if-run-lt1.false c.if-run-gt9.false (sym c.all_digits.ensures ∙ not-true _ (ap not c.if-not-all_digits.true))
+pub returns-in_err-value-clause-value : goal.returns-in_err-value-clause-value
+returns-in_err-value-clause-value c = c.from_residual.ensures ∙ natural-other _ _ _ c.loop-b.invariant c.loop-b-test.true c.in_err-value.ensures.cases
 
-pub returns : goal.returns
-returns c =
-    let v = c.value.ensures in
-    ap some (to_z_pos w32 (omega (arith, v.1)) ∙ ap pos v.0) ∙ natural-digits _ c.if-run-lt1.false c.if-run-gt9.false (sym c.all_digits.ensures ∙ not-false _ (ap not c.if-not-all_digits.false))
+pub overflow_add-value : goal.overflow_add-value
+overflow_add-value c =
+    let few : length c.args.run.now ≤ 9 = search (rules, tests) in
+    omega (arith, worth-small _ _ _ 8 c.loop-b.invariant (omega arith), c.in_ok-value.ensures.value.0, c.in_ok-value.ensures.value.1)
+
+pub loop-b-preserved : goal.loop-b-preserved
+loop-b-preserved c = worth-more _ _ _ c.loop-b.invariant c.loop-b-test.true _ _ c.in_ok-value.ensures.cases c.in_ok-value.ensures.value
+
+pub returns-clause-value : goal.returns-clause-value
+returns-clause-value c =
+    let some : 1 ≤ length c.args.run.now = search (rules, tests) in
+    let few : length c.args.run.now ≤ 9 = search (rules, tests) in
+    natural-all _ _ _ some few c.loop-b.invariant c.loop-b-test.false
+
+pub returns-clause-small : goal.returns-clause-small
+returns-clause-small c =
+    let few : length c.args.run.now ≤ 9 = search (rules, tests) in
+    omega (arith, worth-small _ _ _ 9 c.loop-b.invariant (omega arith))

@@ -1,27 +1,13 @@
 -- `panel_scan::number` meets its contract. Assumes nothing.
-use mathlib.Core.Path.{◌∙◌}
-use mir.Syntax.{w32}
-use mir.Val.{SFits}
-use mir.Facts.{to_z-of_z}
-use Rattle.panel_scan.proofs.Numbers.{number-none, number-plain, signed-malformed, signed-number, opposite-fits}
+use Rattle.std.proofs.Common.{◌∙◌, rules, ap, option_map, pos, neg_ℤ}
+use Rattle.panel_scan.proofs.Signs.{mapped, number-signed, number-plain}
+use Rattle.panel_language.specs.Text.{natural}
 use Rattle.panel_scan.proofs.number.Goals as goal
 
-pub returns-then-run-eq0 : goal.returns-then-run-eq0
-returns-then-run-eq0 c = number-none _ c.if-run-eq0.true
+pub returns-in-Some : goal.returns-in-Some
+returns-in-Some c =
+    mapped _ (λ n. neg_ℤ (pos n)) (λ n z h p. search rules) c.natural.result c.map.result c.natural.ensures.small c.map.ensures.cases ∙ ap (option_map (λ n. neg_ℤ (pos n))) (c.natural.ensures.value ∙ ap natural c.in-Some.ensures.cases.1) ∙ number-signed c.args.run.now c.in-Some.ensures.cases.0
 
-pub returns-then-run-ne45 : goal.returns-then-run-ne45
-returns-then-run-ne45 c = c.natural.ensures ∙ number-plain _ c.if-run-eq0.false c.if-run-ne45.true
-
-pub overflow_sub-result : goal.overflow_sub-result
-overflow_sub-result c =
-    let f : SFits w32 c.in-Number.n = record { sfits = c.in-Number.known_told-1-own.given.0.1 } in
-    simp (to_z-of_z, f) (opposite-fits _ _ _ f c.natural-2.ensures c.in-Number.is)
-
-pub returns-in-Malformed : goal.returns-in-Malformed
-returns-in-Malformed c = signed-malformed _ _ c.if-run-eq0.false c.if-run-ne45.false c.natural-2.ensures c.in-Malformed.is
-
-pub returns-in-Number : goal.returns-in-Number
-returns-in-Number c =
-    let f : SFits w32 c.in-Number.n = record { sfits = c.in-Number.known_told-1-own.given.0.1 } in
-    let g = opposite-fits _ _ _ f c.natural-2.ensures c.in-Number.is in
-    simp (to_z-of_z, f, g) (signed-number _ _ _ c.if-run-eq0.false c.if-run-ne45.false c.natural-2.ensures c.in-Number.is)
+pub returns-in-None : goal.returns-in-None
+returns-in-None c =
+    mapped _ pos (λ n z h p. search rules) c.natural-in-None.result c.map-in-None.result c.natural-in-None.ensures.small c.map-in-None.ensures.cases ∙ ap (option_map pos) c.natural-in-None.ensures.value ∙ number-plain c.args.run.now c.in-None.ensures.cases

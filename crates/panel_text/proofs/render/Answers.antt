@@ -9,12 +9,14 @@ returns-then-out-lt28672 c =
 
 pub show-requires : goal.show-requires
 show-requires c =
-    legal-show _ _ c.if-out-lt28672.false c.parse.result _ c.parse.ensures _ _ c.in-Taken.is (omega (arith, c.parse.auto.levels, c.cells-levels.ensures))
+    legal-show _ _ c.if-out-lt28672.false c.parse.result _ c.parse.ensures _ _ c.in-Ok.is (omega (arith, c.parse.auto.levels, c.cells-levels.ensures))
 
-pub returns-in-Refused : goal.returns-in-Refused
-returns-in-Refused c =
-    record { count = (panel-rendered _ _ c.if-out-lt28672.false c.parse.result _ c.parse.ensures _ c.in-Refused.is _ _ (refused-fitted c.in-Refused.number c.parse.new.levels _ _ _ c.refused.ensures)).0; area = (panel-rendered _ _ c.if-out-lt28672.false c.parse.result _ c.parse.ensures _ c.in-Refused.is _ _ (refused-fitted c.in-Refused.number c.parse.new.levels _ _ _ c.refused.ensures)).1 }
+pub returns-in-Ok : goal.returns-in-Ok
+returns-in-Ok c =
+    let r = panel-rendered _ _ c.if-out-lt28672.false c.parse.result _ c.parse.ensures _ c.in-Ok.is _ _ c.show.ensures in
+    record { count = r.0; area = r.1 }
 
-pub returns-in-Taken : goal.returns-in-Taken
-returns-in-Taken c =
-    record { count = (panel-rendered _ _ c.if-out-lt28672.false c.parse.result _ c.parse.ensures _ c.in-Taken.is _ _ c.show.ensures).0; area = (panel-rendered _ _ c.if-out-lt28672.false c.parse.result _ c.parse.ensures _ c.in-Taken.is _ _ c.show.ensures).1 }
+pub returns-in-Err : goal.returns-in-Err
+returns-in-Err c =
+    let r = panel-rendered _ _ c.if-out-lt28672.false c.parse.result _ c.parse.ensures _ c.in-Err.is _ _ (refused-fitted c.in-Err.refusal c.parse.new.levels _ _ _ c.refused.ensures) in
+    record { count = r.0; area = r.1 }

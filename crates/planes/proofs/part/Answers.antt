@@ -1,4 +1,5 @@
 -- `planes::part` meets its contract. Assumes nothing.
+use borrow.Author.Rules.{rules}
 use Prim.Native.Nat.{◌+◌, ◌-◌, ◌*◌, ◌≤◌}
 use native.Mathlib.Omega.{arith}
 use lib.Dec.{leb, ltb, leb→le, ltb→lt}
@@ -7,16 +8,17 @@ use mir.Facts.{to_z-of_z}
 use mir.Syntax.{w32}
 use mir.Val.{SFits}
 use Rattle.numbers.proofs.Tests.{and_left, and_right}
-use Rattle.picture.specs.Picture.{Source, source}
+use Rattle.picture.specs.Picture.{Source}
+use Rattle.picture.specs.Given.{source_of}
 use Rattle.overlaps.specs.Overlaps.{Overlapping}
 use Rattle.planes.proofs.RowParts.{part_none, part-some, row-end, other-inside}
 use Rattle.planes.proofs.part.Goals as goal
 
 pub returns-then-row-top : goal.returns-then-row-top
 returns-then-row-top c =
-    let down_fits : SFits w32 c.args.shift.down = record { sfits = c.struct_told-1.given.0.1 } in
-    let pictures : Source = source c.args.size c.args.f.now c.args.g.now c.args.shift c.args.plane in
-    let down-overlaps : Overlapping c.args.size.rows c.args.shift.down c.overlap_of-counting.result = simp (to_z-of_z, down_fits) at c.overlap_of-counting.ensures in
+    let down_fits : SFits w32 c.args.source.now.shift.down = search rules in
+    let pictures : Source = source_of c.args.source.now in
+    let down-overlaps : Overlapping c.args.source.now.size.rows c.args.source.now.shift.down c.overlap_of-counting.result = simp (to_z-of_z, down_fits) at c.overlap_of-counting.ensures in
     let s = c in
     let o = c.overlap_of-counting.result in
     part_none pictures s.args.row o s.requires.row_inside down-overlaps s.args.first _ _
@@ -24,9 +26,9 @@ returns-then-row-top c =
 
 pub returns-then-bottom-row : goal.returns-then-bottom-row
 returns-then-bottom-row c =
-    let down_fits : SFits w32 c.args.shift.down = record { sfits = c.struct_told-1.given.0.1 } in
-    let pictures : Source = source c.args.size c.args.f.now c.args.g.now c.args.shift c.args.plane in
-    let down-overlaps : Overlapping c.args.size.rows c.args.shift.down c.overlap_of-counting.result = simp (to_z-of_z, down_fits) at c.overlap_of-counting.ensures in
+    let down_fits : SFits w32 c.args.source.now.shift.down = search rules in
+    let pictures : Source = source_of c.args.source.now in
+    let down-overlaps : Overlapping c.args.source.now.size.rows c.args.source.now.shift.down c.overlap_of-counting.result = simp (to_z-of_z, down_fits) at c.overlap_of-counting.ensures in
     let s = c in
     let o = c.overlap_of-counting.result in
     part_none pictures s.args.row o s.requires.row_inside down-overlaps s.args.first _ _
@@ -34,21 +36,21 @@ returns-then-bottom-row c =
 
 pub slice_bounds-row_part-end-2 : goal.slice_bounds-row_part-end-2
 slice_bounds-row_part-end-2 c =
-    let down_fits : SFits w32 c.args.shift.down = record { sfits = c.struct_told-1.given.0.1 } in
-    let down-overlaps : Overlapping c.args.size.rows c.args.shift.down c.overlap_of-counting.result = simp (to_z-of_z, down_fits) at c.overlap_of-counting.ensures in
-    let ends-g : (c.overlap_of-counting.result.other + (c.args.row - c.overlap_of-counting.result.first)) * c.args.size.columns + c.args.size.columns ≤ length c.args.g.now =
+    let down_fits : SFits w32 c.args.source.now.shift.down = search rules in
+    let down-overlaps : Overlapping c.args.source.now.size.rows c.args.source.now.shift.down c.overlap_of-counting.result = simp (to_z-of_z, down_fits) at c.overlap_of-counting.ensures in
+    let ends-g : (c.overlap_of-counting.result.other + (c.args.row - c.overlap_of-counting.result.first)) * c.args.source.now.size.columns + c.args.source.now.size.columns ≤ length c.args.source.now.g.now =
     let s = c in
     let o = c.overlap_of-counting.result in
-    rw s.requires.length_g (row-end (o.other + (s.args.row - o.first)) s.args.size.rows s.args.size.columns
-    (other-inside o.first o.end o.other s.args.row s.args.size.rows c.if-row-top.false c.if-bottom-row.false down-overlaps.other_within)) in
+    rw s.requires.length_g (row-end (o.other + (s.args.row - o.first)) s.args.source.now.size.rows s.args.source.now.size.columns
+    (other-inside o.first o.end o.other s.args.row s.args.source.now.size.rows c.if-row-top.false c.if-bottom-row.false down-overlaps.other_within)) in
     omega (arith, ends-g)
 
 pub returns : goal.returns
 returns c =
-    let down_fits : SFits w32 c.args.shift.down = record { sfits = c.struct_told-1.given.0.1 } in
-    let right-fits : SFits w32 c.args.shift.right = record { sfits = c.struct_told-1.given.1.0.1 } in
-    let pictures : Source = source c.args.size c.args.f.now c.args.g.now c.args.shift c.args.plane in
-    let down-overlaps : Overlapping c.args.size.rows c.args.shift.down c.overlap_of-counting.result = simp (to_z-of_z, down_fits) at c.overlap_of-counting.ensures in
+    let down_fits : SFits w32 c.args.source.now.shift.down = search rules in
+    let right-fits : SFits w32 c.args.source.now.shift.right = search rules in
+    let pictures : Source = source_of c.args.source.now in
+    let down-overlaps : Overlapping c.args.source.now.size.rows c.args.source.now.shift.down c.overlap_of-counting.result = simp (to_z-of_z, down_fits) at c.overlap_of-counting.ensures in
     let two = c in
     let s = c in
     let o = two.overlap_of-counting.result in

@@ -1,20 +1,18 @@
 -- `rounding::whole_root` meets its contract. Assumes nothing.
-use Prim.Native.Nat.{ℕ, ◌*◌, ◌≤◌}
-use native.Mathlib.Omega.{arith}
-use native.Mathlib.Nat.{mul-le-mul}
-use mir.Syntax.{w64}
-use mir.Val.{Fits}
-use Rattle.statistics.proofs.Halving.{found}
+use Rattle.std.proofs.Common.{◌≡◌, ℕ, suc, ◌+◌, ◌*◌, ◌/◌, ◌%◌, ◌<◌, ◌≤◌, ◌∙◌, arith}
+use native.Mathlib.Nat.{div-add-mod', mod-lt, mul-le-mul_right}
+use Rattle.numbers.specs.Round.{root_over}
+use Rattle.numbers.proofs.Rounds.{root-over-law, root-over-unique}
 use Rattle.rounding.proofs.whole_root.Goals as goal
 
-square-fits : (m : ℕ) → m ≤ 32768 → Fits w64 (m * m)
-square-fits m h = record { fits = omega (arith, mul-le-mul h h) }
-
-product-fits : (m q : ℕ) → m ≤ 32768 → q ≤ 65025 * 65025 → Fits w64 (m * m * q)
-product-fits m q h k = record { fits = omega (arith, mul-le-mul (mul-le-mul h h) k) }
+-- the whole root of v / q, rounded down
+root-of-quotient : (v q r : ℕ) → 0 < q → r * r ≤ v / q → v / q < (r + 1) * (r + 1) → r ≡ root_over v q
+root-of-quotient v q r some reached passed =
+    let e = div-add-mod' v q in
+    let m : v % q < q = mod-lt v some in
+    let lo : r * r * q ≤ v / q * q = mul-le-mul_right q reached in
+    let hi : suc (v / q) * q ≤ (r + 1) * (r + 1) * q = mul-le-mul_right q (omega arith) in
+    root-over-unique v q r (root_over v q) (record { reached = omega arith; largest = omega arith }) (root-over-law v q some)
 
 pub returns : goal.returns
-returns c =
-    let a = c in
-    let l = c.loop-low in
-    found a.args.v a.args.q 32769 l.low l.high a.requires.some l.invariant c.loop-low-test.false
+returns c = c.from.ensures ∙ root-of-quotient c.args.v c.args.q c.isqrt.result c.requires.some c.isqrt.ensures.square_le c.isqrt.ensures.next_square_gt

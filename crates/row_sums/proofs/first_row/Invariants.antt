@@ -1,6 +1,6 @@
 -- What the loops of `row_sums::first_row` keep. Assumes nothing.
 use mathlib.Core.Path.{◌≡◌}
-use Prim.Native.Nat.{suc, ◌-◌}
+use Prim.Native.Nat.{suc}
 use Rattle.numbers.specs.Sum.{sum_to}
 use Rattle.numbers.specs.Wrap.{wrap}
 use Rattle.numbers.proofs.Writes.{at, Upto}
@@ -8,6 +8,3 @@ use Rattle.row_sums.proofs.first_row.Given as goal
 
 abbrev pub invariant-loop-j : goal.invariant-loop-j
 invariant-loop-j l = (l.sum ≡ wrap (sum_to l.j (at l.initial.table))) × Upto (λ k. wrap (sum_to (suc k) (at l.initial.table))) l.initial.table l.table l.j
-
-abbrev pub decreases-loop-j : goal.decreases-loop-j
-decreases-loop-j l = l.columns - l.j

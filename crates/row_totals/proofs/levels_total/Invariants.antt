@@ -1,5 +1,5 @@
 -- What the loops of `row_totals::levels_total` keep. Assumes nothing.
-use Prim.Native.Nat.{◌-◌, ◌≤◌}
+use Prim.Native.Nat.{◌≤◌}
 use lib.ListN.{length}
 use Rattle.numbers.proofs.Writes.{at}
 use Rattle.row_totals.proofs.Totals.{Exact}
@@ -7,6 +7,3 @@ use Rattle.row_totals.proofs.levels_total.Given as goal
 
 abbrev pub invariant-loop-k : goal.invariant-loop-k
 invariant-loop-k l = (l.k ≤ length l.levels) × Exact (at l.levels) l.k l.s
-
-abbrev pub decreases-loop-k : goal.decreases-loop-k
-decreases-loop-k l = length l.levels - l.k

@@ -3,8 +3,8 @@ use mathlib.Core.Path.{◌≡◌, refl, sym, ap, ◌∙◌}
 use Prim.Native.Nat.{◌-◌, ◌*◌, ◌%◌, ◌≤◌}
 use native.Mathlib.Nat.{mul-le-mul_right}
 use native.Mathlib.Omega.{arith}
-use Rattle.picture.specs.Refusal.{answered}
-use Rattle.picture.specs.Picture.{Inputs, inputs}
+use Rattle.picture.specs.Given.{inputs_of}
+use Rattle.picture.specs.Picture.{Inputs}
 use Rattle.picture.proofs.Refusals.{in-limits}
 use Rattle.statistics.specs.SixSums.{on_plane}
 use Rattle.blocks.specs.Blocks.{rows_in, Block}
@@ -16,7 +16,7 @@ use Rattle.search.proofs.by_blocks.Goals as goal
 
 pub loop-i-init : goal.loop-i-init
 loop-i-init c =
-    let given : Inputs = inputs c.args.size c.args.f.now c.args.g.now c.args.window c.args.shift 0 in
+    let given : Inputs = inputs_of c.args.inputs.now in
     record {
       same = whole-search given;
       start = λ h. refl;
@@ -33,16 +33,16 @@ loop-i-init c =
 
 pub first-cell-requires : goal.first-cell-requires
 first-cell-requires c =
-    let given : Inputs = inputs c.args.size c.args.f.now c.args.g.now c.args.window c.args.shift 0 in
+    let given : Inputs = inputs_of c.args.inputs.now in
     let start : c.loop-i.i % 16 ≡ 0 = c.loop-i.invariant.start c.loop-i-test.true in
     let counted : Block (on_plane given 0) c.loop-i.i c.next.new.work c.next.new.block = block_of (on_plane given 0) c.loop-i.i start _ _ c.next.ensures in
     let summed : Block (on_plane given 1) c.loop-i.i c.next-in-loop-i.new.work c.next-in-loop-i.new.block = block_of (on_plane given 1) c.loop-i.i start _ _ c.next-in-loop-i.ensures in
     let squared : Block (on_plane given 3) c.loop-i.i c.next-in-loop-i-2.new.work c.next-in-loop-i-2.new.block = block_of (on_plane given 3) c.loop-i.i start _ _ c.next-in-loop-i-2.ensures in
     let count-is : c.high.result - c.loop-i.i ≡ rows_in given c.loop-i.i = rw c.high.ensures in
-    let room : (c.high.result - c.loop-i.i) * c.args.size.columns ≤ 16 * c.args.size.columns = mul-le-mul_right c.args.size.columns (few given c.requires.inputs c.loop-i.i _ c.loop-i-test.true count-is) in
+    let room : (c.high.result - c.loop-i.i) * c.args.inputs.now.source.size.columns ≤ 16 * c.args.inputs.now.source.size.columns = mul-le-mul_right c.args.inputs.now.source.size.columns (few given c.requires.inputs c.loop-i.i _ c.loop-i-test.true count-is) in
     let l = c.loop-i in
     record {
-      few = omega (arith, room, (in-limits c.args.size c.requires.inputs.size).few_columns);
+      few = omega (arith, room, (in-limits c.args.inputs.now.source.size c.requires.inputs.size).few_columns);
       room_n = omega (arith, room, c.next.auto.block, l.invariant.room_n);
       room_s = omega (arith, room, c.next-in-loop-i.auto.block, l.invariant.room_s);
       room_a = omega (arith, room, c.next-in-loop-i-2.auto.block, l.invariant.room_a);
@@ -51,18 +51,18 @@ first-cell-requires c =
 
 pub returns-then-row-count : goal.returns-then-row-count
 returns-then-row-count c =
-    let given : Inputs = inputs c.args.size c.args.f.now c.args.g.now c.args.window c.args.shift 0 in
+    let given : Inputs = inputs_of c.args.inputs.now in
     let start : c.loop-i.i % 16 ≡ 0 = c.loop-i.invariant.start c.loop-i-test.true in
     let counted : Block (on_plane given 0) c.loop-i.i c.next.new.work c.next.new.block = block_of (on_plane given 0) c.loop-i.i start _ _ c.next.ensures in
     let summed : Block (on_plane given 1) c.loop-i.i c.next-in-loop-i.new.work c.next-in-loop-i.new.block = block_of (on_plane given 1) c.loop-i.i start _ _ c.next-in-loop-i.ensures in
     let squared : Block (on_plane given 3) c.loop-i.i c.next-in-loop-i-2.new.work c.next-in-loop-i-2.new.block = block_of (on_plane given 3) c.loop-i.i start _ _ c.next-in-loop-i-2.ensures in
     let count-is : c.high.result - c.loop-i.i ≡ rows_in given c.loop-i.i = rw c.high.ensures in
     let l = c.loop-i in
-    ap answered (sym (in_block given c.requires.inputs l.i (c.high.result - l.i) c.loop-i-test.true count-is _ _ _ _ _ _ counted summed squared c.first-cell.result c.first-cell.ensures c.if-row-count.true) ∙ l.invariant.same)
+    sym (in_block given c.requires.inputs l.i (c.high.result - l.i) c.loop-i-test.true count-is _ _ _ _ _ _ counted summed squared c.first-cell.result c.first-cell.ensures c.if-row-count.true) ∙ l.invariant.same
 
 pub loop-i-preserved : goal.loop-i-preserved
 loop-i-preserved c =
-    let given : Inputs = inputs c.args.size c.args.f.now c.args.g.now c.args.window c.args.shift 0 in
+    let given : Inputs = inputs_of c.args.inputs.now in
     let start : c.loop-i.i % 16 ≡ 0 = c.loop-i.invariant.start c.loop-i-test.true in
     let counted : Block (on_plane given 0) c.loop-i.i c.next.new.work c.next.new.block = block_of (on_plane given 0) c.loop-i.i start _ _ c.next.ensures in
     let summed : Block (on_plane given 1) c.loop-i.i c.next-in-loop-i.new.work c.next-in-loop-i.new.block = block_of (on_plane given 1) c.loop-i.i start _ _ c.next-in-loop-i.ensures in
@@ -86,6 +86,6 @@ loop-i-preserved c =
 
 pub returns : goal.returns
 returns c =
-    let given : Inputs = inputs c.args.size c.args.f.now c.args.g.now c.args.window c.args.shift 0 in
+    let given : Inputs = inputs_of c.args.inputs.now in
     let l = c.loop-i in
-    ap answered (sym (no_row (steady_at given) c.args.size.columns l.i c.args.size.rows c.loop-i-test.false) ∙ l.invariant.same)
+    sym (no_row (steady_at given) c.args.inputs.now.source.size.columns l.i c.args.inputs.now.source.size.rows c.loop-i-test.false) ∙ l.invariant.same

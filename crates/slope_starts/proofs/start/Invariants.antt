@@ -1,13 +1,15 @@
 -- What the loops of `slope_starts::start` keep. Assumes nothing.
-use Prim.Native.Nat.{◌+◌, ◌-◌, ◌≤◌}
-use Rattle.picture.specs.Picture.{source, plane_at}
+use Prim.Native.Nat.{◌+◌, ◌≤◌}
+use mathlib.Core.List.{map}
+use Rattle.picture.specs.Picture.{plane_at}
+use Rattle.picture.specs.Given.{source_of}
 use Rattle.slopes.specs.Slopes.{padded}
 use Rattle.slopes.specs.Leans.{Blank}
 use Rattle.kept_slopes.specs.Edges.{Slopes}
 use Rattle.slope_starts.proofs.start.Given as goal
 
 abbrev pub invariant-loop-t : goal.invariant-loop-t
-invariant-loop-t l = (l.t ≤ l.h) × Blank l.a l.size.columns × Blank l.b l.size.columns × Slopes (padded (plane_at (source l.size l.f l.g l.shift l.plane))) l.size.columns l.w l.t (128 + l.i) 0 l.rises l.falls
-
-abbrev pub decreases-loop-t : goal.decreases-loop-t
-decreases-loop-t l = l.h - l.t
+invariant-loop-t g l =
+    let S = g.S.Slope in
+    let V = g.S.Value.PlaneValue in
+    (l.t ≤ l.h) × Blank (map V.value l.a) l.source.size.columns × Blank (map V.value l.b) l.source.size.columns × Slopes (padded (plane_at (source_of l.source))) l.source.size.columns l.w l.t (128 + l.i) 0 (map S.sum l.rises) (map S.sum l.falls)

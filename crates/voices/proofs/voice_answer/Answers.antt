@@ -17,7 +17,7 @@ use Rattle.statistics.specs.Voice.{Voice, over32768, empty, steady, grainy, voic
 use Rattle.statistics.proofs.Bounds.{Possible, answers}
 use Rattle.statistics.proofs.Values.{mean-bound, deviation-bound}
 use Rattle.statistics.proofs.Inner.{mean-quotient, mean-found, square-small, deviation-ratio, deviation-found}
-use Rattle.statistics.proofs.Answers.{Taken, count-is, count-some, vf-is, refused-tells, empty-tells, given-tells, passes_on}
+use Rattle.statistics.proofs.Answers.{voice-refusal, Taken, count-is, count-some, vf-is, refused-tells, empty-tells, given-tells, passes_on}
 use Rattle.voices.proofs.voice_answer.Goals as goal
 
 module _ (z : Sums) (p : Possible z) where
@@ -40,7 +40,7 @@ module _ (z : Sums) (p : Possible z) where
 pub nearest-requires : goal.nearest-requires
 nearest-requires c =
     let fits-s : SFits w64 c.args.z.s = search rules in
-    let taken : Taken c.args.z c.in-Given.m = given-tells c.args.z _ _ c.central_moments.ensures c.in-Given.is in
+    let taken : Taken c.args.z c.in-Some.m = given-tells c.args.z _ _ c.in_ok-m.ensures c.in-Some.is in
     let t = taken in
     simp (to_z-of_z, fits-s) (mean-quotient _ t.possible _ (count-is _ _ t) (count-some _ _ t))
 
@@ -50,7 +50,7 @@ small-mean z m p h e = rw e (mean-bound z p (omega arith))
 pub over_32768-level-requires : goal.over_32768-level-requires
 over_32768-level-requires c =
     let fits-s : SFits w64 c.args.z.s = search rules in
-    let taken : Taken c.args.z c.in-Given.m = given-tells c.args.z _ _ c.central_moments.ensures c.in-Given.is in
+    let taken : Taken c.args.z c.in-Some.m = given-tells c.args.z _ _ c.in_ok-m.ensures c.in-Some.is in
     let mean-is : c.nearest.result ≡ mean c.args.z =
     let t = taken in
     mean-found c.args.z t.possible _ (count-is _ _ t) _ (simp (to_z-of_z, fits-s) at c.nearest.ensures) in
@@ -61,7 +61,7 @@ over_32768-level-requires c =
 pub returns-then-m-eq0 : goal.returns-then-m-eq0
 returns-then-m-eq0 c =
     let fits-s : SFits w64 c.args.z.s = search rules in
-    let taken : Taken c.args.z c.in-Given.m = given-tells c.args.z _ _ c.central_moments.ensures c.in-Given.is in
+    let taken : Taken c.args.z c.in-Some.m = given-tells c.args.z _ _ c.in_ok-m.ensures c.in-Some.is in
     let mean-is : c.nearest.result ≡ mean c.args.z =
     let t = taken in
     mean-found c.args.z t.possible _ (count-is _ _ t) _ (simp (to_z-of_z, fits-s) at c.nearest.ensures) in
@@ -72,19 +72,19 @@ returns-then-m-eq0 c =
 
 pub overflow_mul-m : goal.overflow_mul-m
 overflow_mul-m c =
-    let taken : Taken c.args.z c.in-Given.m = given-tells c.args.z _ _ c.central_moments.ensures c.in-Given.is in
+    let taken : Taken c.args.z c.in-Some.m = given-tells c.args.z _ _ c.in_ok-m.ensures c.in-Some.is in
     let t = taken in
     record { fits = omega (arith, square-small _ t.possible _ (count-is _ _ t)) }
 
 pub whole_root-requires : goal.whole_root-requires
 whole_root-requires c =
-    let taken : Taken c.args.z c.in-Given.m = given-tells c.args.z _ _ c.central_moments.ensures c.in-Given.is in
+    let taken : Taken c.args.z c.in-Some.m = given-tells c.args.z _ _ c.in_ok-m.ensures c.in-Some.is in
     let t = taken in
     deviation-ratio _ t.possible _ (count-is _ _ t) _ (vf-is _ _ t) (count-some _ _ t)
 
 pub overflow_cast-whole_root : goal.overflow_cast-whole_root
 overflow_cast-whole_root c =
-    let taken : Taken c.args.z c.in-Given.m = given-tells c.args.z _ _ c.central_moments.ensures c.in-Given.is in
+    let taken : Taken c.args.z c.in-Some.m = given-tells c.args.z _ _ c.in_ok-m.ensures c.in-Some.is in
     let root_is : c.whole_root.result ≡ deviation c.args.z =
     let t = taken in
     deviation-found _ t.possible _ (count-is _ _ t) _ _ (vf-is _ _ t) c.whole_root.ensures in
@@ -96,7 +96,7 @@ overflow_cast-whole_root c =
 
 pub over_32768-spread-requires : goal.over_32768-spread-requires
 over_32768-spread-requires c =
-    let taken : Taken c.args.z c.in-Given.m = given-tells c.args.z _ _ c.central_moments.ensures c.in-Given.is in
+    let taken : Taken c.args.z c.in-Some.m = given-tells c.args.z _ _ c.in_ok-m.ensures c.in-Some.is in
     let root_is : c.whole_root.result ≡ deviation c.args.z =
     let t = taken in
     deviation-found _ t.possible _ (count-is _ _ t) _ _ (vf-is _ _ t) c.whole_root.ensures in
@@ -108,20 +108,20 @@ over_32768-spread-requires c =
     simp root-signed root-small
 
 -- ---- the other answers
-pub returns-in-Refused : goal.returns-in-Refused
+pub returns-in_err-m : goal.returns-in_err-m
 unfolding voice_call
-returns-in-Refused c =
-    passes_on c.args.z _ _ (refused-tells _ _ _ c.central_moments.ensures c.in-Refused.is)
+returns-in_err-m c =
+    voice-refusal _ _ _ c.from_residual.ensures.1 (passes_on c.args.z _ _ (refused-tells _ _ c.in_err-m.ensures))
 
-pub returns-in-Empty : goal.returns-in-Empty
-returns-in-Empty c =
-    let e = empty-tells _ _ c.central_moments.ensures c.in-Empty.is in
+pub returns-in_default : goal.returns-in_default
+returns-in_default c =
+    let e = empty-tells _ _ c.in_ok-m.ensures c.in_default.is in
     answers-empty c.args.z e.possible e.is
 
-pub returns-else-m-eq0 : goal.returns-else-m-eq0
-returns-else-m-eq0 c =
+pub returns : goal.returns
+returns c =
     let fits-s : SFits w64 c.args.z.s = search rules in
-    let taken : Taken c.args.z c.in-Given.m = given-tells c.args.z _ _ c.central_moments.ensures c.in-Given.is in
+    let taken : Taken c.args.z c.in-Some.m = given-tells c.args.z _ _ c.in_ok-m.ensures c.in-Some.is in
     let mean-is : c.nearest.result ≡ mean c.args.z =
     let t = taken in
     mean-found c.args.z t.possible _ (count-is _ _ t) _ (simp (to_z-of_z, fits-s) at c.nearest.ensures) in

@@ -11,8 +11,5 @@ use Rattle.window_sums.proofs.sum.Given as goal
 
 abbrev pub invariant-loop-m : goal.invariant-loop-m
 invariant-loop-m l = (l.initial.m ≤ l.m) × (l.m ≤ l.bottom)
-    × ((d : Shift) → Overlapping l.size.rows d.down l.counting → Overlapping l.size.columns d.right l.along →
-    l.s ≡ wrap (sum_to (l.m - l.initial.m) (λ k. window_row (inputs l.size l.f l.g l.window d l.plane) l.cell.row l.cell.column (l.initial.m + k))))
-
-abbrev pub decreases-loop-m : goal.decreases-loop-m
-decreases-loop-m l = l.bottom - l.m
+    × ((d : Shift) → Overlapping l.inputs.source.size.rows d.down l.counting → Overlapping l.inputs.source.size.columns d.right l.along →
+    l.s ≡ wrap (sum_to (l.m - l.initial.m) (λ k. window_row (inputs l.inputs.source.size l.inputs.source.f.now l.inputs.source.g.now l.inputs.window d l.inputs.source.plane) l.cell.row l.cell.column (l.initial.m + k))))

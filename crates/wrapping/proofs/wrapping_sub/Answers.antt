@@ -1,20 +1,8 @@
 -- `wrapping::wrapping_sub` meets its contract. Assumes nothing.
-use Rattle.std.proofs.Common.{◌≡◌, ◌+◌, ◌%◌, ◌^◌, ◌-ℤ◌, ap, ◌∙◌, arith, w64}
-use mir.ValLaws.{to_z-of_z}
-use Rattle.numbers.specs.Wrap.{residue, spelled, wrap}
-use Rattle.numbers.proofs.Wraps.{residue-lt, residue-sub}
+use Rattle.std.proofs.Common.{◌-ℤ◌, ◌∙◌, w64}
+use Rattle.std.proofs.lemmas.Int.{wrapping_sub_is}
+use Rattle.wrapping.proofs.Same.{wrap-is}
 use Rattle.wrapping.proofs.wrapping_sub.Goals as goal
 
 pub returns : goal.returns
-unfolding wrap
-returns c =
-    let a = c.args.a in
-    let b = c.args.b in
-    let x : c.bits.result ≡ residue a =
-    c.bits.ensures ∙ ap residue (to_z-of_z w64 a c.ranges.a) in
-    let y : c.bits-2.result ≡ residue b =
-    c.bits-2.ensures ∙ ap residue (to_z-of_z w64 b c.ranges.b) in
-    let u : (c.wrapping_sub_u64.result + c.bits-2.result) % 2 ^ 64 ≡ c.bits.result = c.wrapping_sub_u64.ensures.value in
-    let e : c.wrapping_sub_u64.result ≡ residue (a -ℤ b) =
-    omega (arith, residue-sub a b, residue-lt a, residue-lt b, c.wrapping_sub_u64.type_inv) in
-    to_z-of_z w64 _ (record { sfits = c.of_bits.type_inv }) ∙ c.of_bits.ensures ∙ ap spelled e
+returns c = wrapping_sub_is w64 _ _ c.ranges.a c.ranges.b ∙ wrap-is (c.args.a -ℤ c.args.b)

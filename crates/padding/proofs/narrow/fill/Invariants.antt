@@ -1,11 +1,7 @@
 -- What the loops of `padding::narrow::fill` keep. Assumes nothing.
-use Prim.Native.Nat.{ℕ, ◌-◌}
-use lib.ListN.{length}
+use Prim.Native.Nat.{ℕ}
 use Rattle.numbers.proofs.Writes.{Upto}
 use Rattle.padding.proofs.narrow.fill.Given as goal
 
 abbrev pub invariant-loop-k : goal.invariant-loop-k
 invariant-loop-k l = Upto (λ (k : ℕ). l.value) l.initial.out l.out l.k
-
-abbrev pub decreases-loop-k : goal.decreases-loop-k
-decreases-loop-k l = length l.initial.out - l.k

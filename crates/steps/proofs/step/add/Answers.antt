@@ -1,7 +1,7 @@
 -- `steps::step::add` meets its contract. Assumes nothing.
-use native.Mathlib.Omega.{arith}
-use Rattle.numbers.proofs.Writes.{upto_all}
+use Rattle.std.proofs.Common.{rules}
+use Rattle.exchange_loops.proofs.Adding.{added_all}
 use Rattle.steps.proofs.step.add.Goals as goal
 
 pub returns : goal.returns
-returns c = upto_all c.loop-j.invariant (omega arith)
+returns c = added_all _ _ _ _ c.add_each.ensures (λ j x h p. search rules)

@@ -1,0 +1,9 @@
+-- A row of sums to each of which a number was added.
+-- Assumes nothing.
+use Rattle.std.specs.Prelude.{◌≡◌, ℕ, ◌<◌, List, length, get_or, ℤ, pos, ◌+ℤ◌}
+use Rattle.numbers.specs.Wrap.{wrap}
+
+-- to the sum at each place k a number was added that is `By k`, and the sum is wrapped at 64 bits
+pub record AddedEach (By : ℕ → ℤ → Type 0) (old new : List ℤ) : Type 0 where
+  pub size : length new ≡ length old
+  pub each : (k : ℕ) → k < length old → (x : ℤ) × By k x × (get_or new k (pos 0) ≡ wrap (get_or old k (pos 0) +ℤ x))

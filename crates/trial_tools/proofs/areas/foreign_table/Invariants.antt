@@ -1,9 +1,0 @@
--- What the loops of `trial_tools::areas::foreign_table` keep. Assumes nothing.
-use Rattle.std.proofs.Common.{◌≡◌, ◌-◌, length}
-use Rattle.trial_tools.proofs.areas.foreign_table.Given as goal
-
-abbrev pub invariant-loop-k : goal.invariant-loop-k
-invariant-loop-k l = length l.area ≡ 32768
-
-abbrev pub decreases-loop-k : goal.decreases-loop-k
-decreases-loop-k l = l.most - l.k
