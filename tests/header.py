@@ -18,6 +18,8 @@ CONDITIONS = "crates/picture/specs/Conditions.antt"
 SIX_SUMS = "crates/statistics/specs/SixSums.antt"
 WINDOWS = "crates/legal_windows/src/lib.rt"
 LINES = "crates/picture/src/lib.rt"
+SHAPES = "crates/picture/src/shape.rt"
+PLANES = "crates/picture/src/plane.rt"
 PANEL = "crates/panel_language/specs/Panel.antt"
 
 # What a number of Rattle, or of Rust, is in C.
@@ -47,15 +49,15 @@ CONSTANTS = {
     "LS_EMPTY": [(REPLIES, "const EMPTY: i32 = @;"), (BINDING, "const EMPTY: i32 = @;")],
     "LS_FLAT": [(REPLIES, "const FLAT: i32 = @;"), (BINDING, "const FLAT: i32 = @;")],
     "LS_NOWHERE": [(REPLIES, "const NOWHERE: i32 = @;"), (BINDING, "const NOWHERE: i32 = @;")],
-    "LS_RECTANGLE": [(WINDOWS, "@ => rectangle_legal("), (TYPES, "shape: @, first: a, second: b")],
-    "LS_DIAMOND": [(WINDOWS, "@ => diamond_legal("), (TYPES, "shape: @, first: r, second: 0")],
-    "LS_HEXAGON": [(WINDOWS, "@ => hexagon_legal("), (TYPES, "shape: @, first: k, second: h")],
-    "LS_PLANE_ONE": [(SIX_SUMS, " n = direct_sum (on_plane x @)"), (TYPES, "ONE: Plane = Plane(@)")],
-    "LS_PLANE_F": [(SIX_SUMS, " s = direct_sum (on_plane x @)"), (TYPES, "F: Plane = Plane(@)")],
-    "LS_PLANE_G": [(SIX_SUMS, " t = direct_sum (on_plane x @)"), (TYPES, "G: Plane = Plane(@)")],
-    "LS_PLANE_F_SQUARED": [(SIX_SUMS, " a = direct_sum (on_plane x @)"), (TYPES, "F_SQUARED: Plane = Plane(@)")],
-    "LS_PLANE_G_SQUARED": [(SIX_SUMS, " b = direct_sum (on_plane x @)"), (TYPES, "G_SQUARED: Plane = Plane(@)")],
-    "LS_PLANE_PRODUCT": [(SIX_SUMS, " p = direct_sum (on_plane x @)"), (TYPES, "PRODUCT: Plane = Plane(@)")],
+    "LS_RECTANGLE": [(SHAPES, "@ => Ok(Shape::Rectangle),"), (WINDOWS, "@ => rectangle_legal("), (TYPES, "shape: @, first: a, second: b")],
+    "LS_DIAMOND": [(SHAPES, "@ => Ok(Shape::Diamond),"), (WINDOWS, "@ => diamond_legal("), (TYPES, "shape: @, first: r, second: 0")],
+    "LS_HEXAGON": [(SHAPES, "@ => Ok(Shape::Hexagon),"), (WINDOWS, "@ => hexagon_legal("), (TYPES, "shape: @, first: k, second: h")],
+    "LS_PLANE_ONE": [(PLANES, "@ => Ok(Plane::One),"), (SIX_SUMS, " n = direct_sum (on_plane x @)"), (TYPES, "ONE: Plane = Plane(@)")],
+    "LS_PLANE_F": [(PLANES, "@ => Ok(Plane::F),"), (SIX_SUMS, " s = direct_sum (on_plane x @)"), (TYPES, "F: Plane = Plane(@)")],
+    "LS_PLANE_G": [(PLANES, "@ => Ok(Plane::G),"), (SIX_SUMS, " t = direct_sum (on_plane x @)"), (TYPES, "G: Plane = Plane(@)")],
+    "LS_PLANE_F_SQUARED": [(PLANES, "@ => Ok(Plane::FSquared),"), (SIX_SUMS, " a = direct_sum (on_plane x @)"), (TYPES, "F_SQUARED: Plane = Plane(@)")],
+    "LS_PLANE_G_SQUARED": [(PLANES, "@ => Ok(Plane::GSquared),"), (SIX_SUMS, " b = direct_sum (on_plane x @)"), (TYPES, "G_SQUARED: Plane = Plane(@)")],
+    "LS_PLANE_PRODUCT": [(PLANES, "@ => Ok(Plane::Product),"), (SIX_SUMS, " p = direct_sum (on_plane x @)"), (TYPES, "PRODUCT: Plane = Plane(@)")],
     "LS_STEADY": [(REPLIES, "const STEADY: u32 = @;"), (BINDING, "const STEADY: u32 = @;")],
     "LS_GRAINY": [(REPLIES, "const GRAINY: u32 = @;")],
     "LS_MAX_ROWS": [("crates/picture/specs/Size.antt", "leb z.rows @"), (TYPES, "MAX_ROWS: usize = @;")],

@@ -283,11 +283,11 @@ DAMAGES = [
     ("another definition", TRACE, r"picture\.Size\.size_legal", "picture.Size.legal"),
     ("another file of laws", TRACE, r"picture\.Refusals\.direct-order", "picture.Calls.direct-order"),
     ("another module", TRACE, r"steps::step::add_gain", "steps::change::add_gain"),
-    ("another edit", TRACE, r"checks/plane_6`", "checks/plane_7`"),
+    ("another edit", TRACE, r"picture/plane_6`", "picture/plane_7`"),
     ("an edit of a crate that is gone", TRACE, r"The edits of `wrapping`", "The edits of `arithmetic`"),
-    ("an old text that is nowhere", "crates/checks/must-fail/plane_6.edit", r"old: +const", "old: the const"),
-    ("an old text that is not the only one", "crates/checks/must-fail/plane_6.edit", r"(?m)^old: .*$", "old: plane"),
-    ("an edit that replaces nothing", "crates/checks/must-fail/plane_6.edit", r"(?m)^new:.*$", ""),
+    ("an old text that is nowhere", "crates/picture/must-fail/plane_6.edit", r"old: +5 =>", "old: the 5 =>"),
+    ("an old text that is not the only one", "crates/picture/must-fail/plane_6.edit", r"(?m)^old: .*$", "old: Plane"),
+    ("an edit that replaces nothing", "crates/picture/must-fail/plane_6.edit", r"(?m)^new:.*$", ""),
     ("a crate missing", README, r"\n\|[^\n]*`plane_values`[^\n]*", ""),
     ("a crate missing among others", README, r"`c_direct`, ", ""),
     ("a crate twice", README, r"(\n\|[^\n]*`plane_values`[^\n]*)", r"\1\1"),
@@ -302,13 +302,13 @@ DAMAGES = [
     ("a path in a comment of the code", "crates/checks/src/lib.rt", r"\A", "// crates/spec_picture/specs has them.\n"),
     ("a path in a comment of a definition", "crates/picture/specs/Size.antt", r"\A", "-- crates/spec_picture/specs has them.\n"),
     ("a law in the first line of an edit", "crates/numbers/must-fail/toward_zero.edit", r"`floor-law`", "`floors-law`"),
-    ("a path in the first line of an edit", "crates/checks/must-fail/plane_6.edit", r"\A", "# crates/spec_picture/specs has them.\n"),
+    ("a path in the first line of an edit", "crates/picture/must-fail/plane_6.edit", r"\A", "# crates/spec_picture/specs has them.\n"),
 ]
 
 # Which file is called what else, or is added.
 MOVES = [
-    ("an edit renamed", "crates/checks/must-fail/plane_6.edit", "crates/checks/must-fail/plane_7.edit"),
-    ("an edit that no line names", None, "crates/checks/must-fail/plane_7.edit"),
+    ("an edit renamed", "crates/picture/must-fail/plane_6.edit", "crates/picture/must-fail/plane_7.edit"),
+    ("an edit that no line names", None, "crates/picture/must-fail/plane_7.edit"),
     ("a file of definitions renamed", "crates/picture/specs/Size.antt", "crates/picture/specs/Sizes.antt"),
     ("a module renamed", "crates/steps/src/step.rt", "crates/steps/src/gain.rt"),
     ("a sample renamed", "samples/hill.txt", "samples/valley.txt"),

@@ -1,18 +1,17 @@
 -- The sum of a range of a row as its ends move, and a row that is written part by part.
 -- Assumes nothing.
-use mathlib.Core.Path.{◌≡◌, refl, sym, ap, ◌∙◌, subst}
+use mathlib.Core.Path.{◌≡◌, refl, sym, ap, ◌∙◌}
 use mathlib.Core.List.{List}
 use Prim.Native.Nat.{ℕ, suc, ◌+◌, ◌-◌, ◌≤◌, ◌<◌, min}
 use native.Mathlib.Numerals.{add-one}
 use native.Mathlib.Omega.{arith}
 use native.Mathlib.Decide.{ℕ_discrete, dec_lt}
 use lib.IntN.{ℤ, pos, ◌+ℤ◌, ◌-ℤ◌}
-use lib.Dec.{leb}
 use lib.ListN.{length, set, length-set}
 use lib.Seq.{get_or-set_same, get_or-set_other}
 use borrow.Rule.Slice.PartMut.{put_mid}
 use Rattle.numbers.specs.Grid.{tabulate}
-use Rattle.numbers.specs.Sum.{sum_to, pick, dist}
+use Rattle.numbers.specs.Sum.{sum_to}
 use Rattle.numbers.specs.Wrap.{wrap}
 use Rattle.numbers.proofs.Grids.{tabulate-cong}
 use Rattle.numbers.proofs.Linear.{any, sums, ring}
@@ -68,9 +67,6 @@ unfolding range_sum
 range-near row b j lo hi l h = rw (l, h) (ap wrap (sym (sum_near (length row) j b (at row))))
 
 -- ---- a row that is written part by part
-pub written_none : (f : ℕ → ℤ) (old : List ℤ) (first : ℕ) → Written f old old first first
-written_none f old first = record { size = refl; done = λ k h l. absurd (omega arith); same = λ k h. refl }
-
 module _ {f : ℕ → ℤ} {old now : List ℤ} {first n : ℕ} (u : Written f old now first n) where
   done-by : (v : ℤ) → n < length old → v ≡ f n → (k : ℕ) → first ≤ k → k < n + 1 → Dec (k ≡ n) → at (set now n v) k ≡ f k
   done-by v h e k g l (yes p) = rw p (get_or-set_same now n v (pos 0) (omega (arith, u.size)) ∙ e)
@@ -93,9 +89,6 @@ module _ {f : ℕ → ℤ} {old now : List ℤ} {first n : ℕ} (u : Written f o
     done = λ k g l. join_by later end v k g l (dec_lt k n);
     same = λ k l. v.same k (omega arith) ∙ u.same k l;
   }
-
-  pub written-upto : (m : ℕ) → n ≡ m → Written f old now first m
-  written-upto m e = subst (λ (k : ℕ). Written f old now first k) e u
 
 pub written_all : {f : ℕ → ℤ} {old now : List ℤ} {n : ℕ} → length old ≡ n → Written f old now 0 n → now ≡ tabulate n f
 written_all {f} {old} {now} {n} h u = is-tabulate now n f (u.size ∙ h) (λ k l. u.done k (omega arith) l)

@@ -3,11 +3,9 @@
 use Rattle.std.specs.Prelude.{◌≡◌, ℕ, ◌+◌, ◌*◌, ◌≤◌, false, List, length, ℤ}
 use Rattle.picture.specs.Window.{shape_of, is_rectangle}
 use Rattle.picture.specs.Picture.{Inputs}
-use Rattle.steps.specs.Asked.{Checked}
 
--- checked inputs, rows of the picture from a position on, a work area, and room for those rows
+-- rows of the picture from a position on, a work area, and room for those rows
 pub record ManyAsked (x : Inputs) (position n : ℕ) (work out : List ℤ) : Type 0 where
-  pub inputs : Checked x
   pub rows : position + n ≤ x.source.size.rows
   pub room_work : length work ≡ x.source.size.columns
   pub room : length out ≡ n * x.source.size.columns

@@ -1,37 +1,36 @@
 -- Demand 3, proved at the level of the definitions.
 -- Assumes nothing.
 use mathlib.Core.Path.{◌≡◌, refl, sym, ◌∙◌, ap, ap₂, subst}
-use Prim.Native.Nat.{ℕ, zero, suc, ◌+◌, ◌-◌, ◌*◌, ◌^◌, ◌≤◌, ◌<◌}
+use Prim.Native.Nat.{ℕ, ◌+◌, ◌-◌, ◌*◌, ◌≤◌, ◌<◌}
 use native.Mathlib.Omega.{arith}
 use mathlib.Core.Bool.{Bool, true, false, not, ◌&&◌, ◌||◌}
 use mathlib.Core.List.{List, [], ◌∷◌, ◌++◌}
 use mathlib.Core.Option.{Option, none, some}
 use lib.Dec.{T, ltb, eqb, lt→ltb}
 use lib.ListN.{length, get_or}
-use lib.IntN.{ℤ, pos, nat_abs}
+use lib.IntN.{ℤ, pos}
 use Rattle.numbers.specs.Grid.{grid, rows_from}
 use Rattle.numbers.proofs.Grids.{length-rows, get_or-grid, rows_join}
-use Rattle.picture.specs.Refusal.{Outcome, Filling, refused, answered, refusal, outcome, ◌when◌}
+use Rattle.picture.specs.Refusal.{Filling, answered, refusal, ◌when◌}
 use Rattle.picture.specs.Window.{Shape, shape_of}
-use Rattle.picture.specs.declared.Size.{Size}
 use Rattle.picture.specs.Size.{cells}
 use Rattle.picture.specs.Picture.{Levels, Inputs, plane_at}
 use Rattle.picture.specs.Conditions.{accepted, input_checks, check7, check8}
-use Rattle.picture.specs.Direct.{window_sum, direct_sum, direct_call}
-use Rattle.picture.proofs.Refusals.{InLimits, in-limits, Accepted, accepted-has, direct-answers, pass_all, none-head, none_rest, outcome-none, pass, no-checks}
+use Rattle.picture.specs.Direct.{window_sum, direct_sum}
+use Rattle.picture.proofs.Refusals.{InLimits, in-limits, accepted-has, direct-answers, pass_all, none-head, outcome-none, pass, no-checks}
 use Rattle.picture.proofs.Planes.{plane-bound}
-use Rattle.cumulative.specs.Table.{table_of, build_call, read_call}
+use Rattle.cumulative.specs.Table.{build_call, read_call}
 use Rattle.cumulative.proofs.Reading.{build-fills, read-answers}
-use Rattle.session.specs.Rows.{RowOutcome, Strip, strip, row_call, row_result, row_checks}
-use Rattle.session.proofs.Steps.{Ready, Done, strip-done}
+use Rattle.session.specs.Rows.{RowOutcome, row_call, row_result, row_checks}
+use Rattle.session.proofs.Steps.{Ready, strip-done}
 use Rattle.statistics.specs.declared.Sums.{Sums}
 use Rattle.statistics.specs.SixSums.{six_sums, impossible, unless9}
 use Rattle.statistics.specs.Moments.{unless_empty, mean, variance, deviation, mean_call, variance_call, deviation_call}
 use Rattle.statistics.specs.Voice.{voice, voice_call}
-use Rattle.statistics.specs.Coefficient.{coefficient, coefficient_call, value}
+use Rattle.statistics.specs.Coefficient.{coefficient, coefficient_call}
 use Rattle.statistics.proofs.Possible.{sums-possible}
 use Rattle.statistics.proofs.Values.{coefficient_range}
-use Rattle.agreement.specs.Agreement.{Call, Progress, fresh, verdict, count_of, rows_of, next, after, Agreement, Demand3}
+use Rattle.agreement.specs.Agreement.{Call, Progress, fresh, count_of, rows_of, next, after, Agreement, Demand3}
 
 answers : {A : Type 0} (z : Sums) (r : A) → impossible z ≡ false → unless9 z r ≡ answered r
 answers z r e = outcome-none (refusal ((9 when impossible z) ∷ [])) r (pass 9 (impossible z) [] e ∙ no-checks)

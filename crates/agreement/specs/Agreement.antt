@@ -10,17 +10,15 @@
 -- after one call are those before the next. The pictures are slices of i16, so `Levels` holds of their contents. The table's area is
 -- what `build` left in it, untouched since.
 -- Assumes nothing.
-use Rattle.std.specs.Prelude.{◌≡◌, ℕ, zero, suc, ◌+◌, ◌*◌, ◌≤◌, ◌<◌, Bool, true, false, List, [], ◌∷◌, ◌++◌, length, get_or, ℤ, pos, nat_abs}
+use Rattle.std.specs.Prelude.{◌≡◌, ℕ, ◌+◌, ◌*◌, ◌≤◌, ◌<◌, List, [], ◌∷◌, ◌++◌, length, get_or, ℤ, pos, nat_abs}
 use Rattle.std.proofs.Math.Option.{Option, none, some}
-use Rattle.picture.specs.Refusal.{Outcome, refused, answered, refusal}
+use Rattle.picture.specs.Refusal.{answered, refusal}
 use Rattle.picture.specs.Picture.{Levels, Inputs}
-use Rattle.picture.specs.declared.Size.{Size}
 use Rattle.picture.specs.Size.{cells}
 use Rattle.picture.specs.Conditions.{accepted}
 use Rattle.picture.specs.Direct.{direct_sum, direct_call}
 use Rattle.cumulative.specs.Table.{build_call, read_call}
 use Rattle.session.specs.Rows.{RowOutcome, row_call, row_checks}
-use Rattle.statistics.specs.declared.Sums.{Sums}
 use Rattle.statistics.specs.SixSums.{six_sums}
 use Rattle.statistics.specs.Moments.{unless_empty, mean, variance, deviation, mean_call, variance_call, deviation_call}
 use Rattle.statistics.specs.Voice.{voice, voice_call}

@@ -1,23 +1,22 @@
 // The work area from row to row, and the output row that it gives.
-// For callers that have checked their inputs.
 #![tactic(auto)]
 
 ghost use Rattle.std.specs.Prelude.{◌≡◌};
 ghost use Rattle.picture.specs.Window.{shape_of};
 ghost use Rattle.picture.specs.Picture.{plane_at};
-ghost use Rattle.picture.specs.Given.{source_of, inputs_of};
+ghost use Rattle.picture.specs.Checked.{given, checked_source, checked_inputs};
 ghost use Rattle.session.specs.Rows.{work_after, output_row};
 ghost use Rattle.areas.specs.Asked.{OutputAsked};
 ghost use Rattle.steps.specs.Asked.{StepAsked};
 
 use first_rows::rectangle;
-use picture::{Inputs, Size, Window};
+use picture::{CheckedInputs, CheckedWindow, Size};
 use steps::step;
 
 // The work area moves on to the row at a position: at position 0 it is not read. The room for a row serves on the way.
-fn area(position: usize, inputs: &Inputs<'_>, work: &mut [i64], row: &mut [i64])
-    requires { StepAsked (inputs_of inputs.now) position work.old row.old }
-    ensures { work.new ≡ work_after inputs.now.source.size (plane_at (source_of inputs.now.source)) (shape_of inputs.now.window) position work.old }
+fn area(position: usize, inputs: &CheckedInputs<'_>, work: &mut [i64], row: &mut [i64])
+    requires { StepAsked (checked_inputs inputs.now) position work.old row.old }
+    ensures { work.new ≡ work_after inputs.now.source.size (plane_at (checked_source inputs.now.source)) (shape_of (given inputs.now.window)) position work.old }
 {
     if shape::is_rectangle(inputs.window) {
         let a = shape::height(inputs.window);
@@ -38,9 +37,9 @@ fn area(position: usize, inputs: &Inputs<'_>, work: &mut [i64], row: &mut [i64])
 }
 
 // The output row: of a rectangle the sums across the work area, of the others the work area.
-fn output(size: Size, window: Window, work: &[i64], out: &mut [i64])
-    requires { OutputAsked size window work.now out.old }
-    ensures { out.new ≡ output_row size (shape_of window) work.now }
+fn output(size: Size, window: CheckedWindow, work: &[i64], out: &mut [i64])
+    requires { OutputAsked size work.now out.old }
+    ensures { out.new ≡ output_row size (shape_of (given window)) work.now }
 {
     if shape::is_rectangle(window) {
         across::across(work, shape::width(window), out);
@@ -50,10 +49,10 @@ fn output(size: Size, window: Window, work: &[i64], out: &mut [i64])
 }
 
 // The work area moves on to the row at a position, and out is its output row.
-pub fn next(position: usize, inputs: &Inputs<'_>, work: &mut [i64], out: &mut [i64])
-    requires { StepAsked (inputs_of inputs.now) position work.old out.old }
-    ensures work { work.new ≡ work_after inputs.now.source.size (plane_at (source_of inputs.now.source)) (shape_of inputs.now.window) position work.old }
-    ensures out { out.new ≡ output_row inputs.now.source.size (shape_of inputs.now.window) (work_after inputs.now.source.size (plane_at (source_of inputs.now.source)) (shape_of inputs.now.window) position work.old) }
+pub fn next(position: usize, inputs: &CheckedInputs<'_>, work: &mut [i64], out: &mut [i64])
+    requires { StepAsked (checked_inputs inputs.now) position work.old out.old }
+    ensures work { work.new ≡ work_after inputs.now.source.size (plane_at (checked_source inputs.now.source)) (shape_of (given inputs.now.window)) position work.old }
+    ensures out { out.new ≡ output_row inputs.now.source.size (shape_of (given inputs.now.window)) (work_after inputs.now.source.size (plane_at (checked_source inputs.now.source)) (shape_of (given inputs.now.window)) position work.old) }
 {
     area(position, inputs, work, out);
     output(inputs.source.size, inputs.window, work, out);

@@ -20,7 +20,7 @@ use Rattle.picture.specs.Direct.{window_sum, direct_sum}
 use Rattle.picture.proofs.Planes.{plane-bound}
 use Rattle.picture.proofs.Refusals.{InLimits, in-limits}
 use Rattle.session.specs.Rows.{strip, Advanced}
-use Rattle.steps.specs.Asked.{Checked}
+use Rattle.picture.proofs.Found.{Checked}
 use Rattle.session.proofs.Steps.{Ready, strip-done}
 use Rattle.statistics.specs.SixSums.{on_plane}
 use Rattle.blocks.specs.Blocks.{ready, rows_in, Block, Held, RowSums}

@@ -6,7 +6,6 @@ use Rattle.picture.specs.Window.{shape_of}
 use Rattle.picture.specs.Picture.{Inputs, plane_at}
 use Rattle.picture.specs.Direct.{direct_sum}
 use Rattle.session.specs.Rows.{work_value}
-use Rattle.steps.specs.Asked.{Checked}
 
 -- the work area before row i: anything before row 0, and later what the row above left
 abbrev pub ready : Inputs → ℕ → List ℤ → Type 0
@@ -27,9 +26,8 @@ pub record Held (x : Inputs) (i : ℕ) (work block : List ℤ) : Type 0 where
   pub fresh : i % 16 ≡ 0 → ready x i work
   pub begun : 0 < i % 16 → Block x (i - i % 16) work block
 
--- checked inputs, a row of the picture, what stands before it, and room for a row and for a block
+-- a row of the picture, what stands before it, and room for a row and for a block
 pub record RowAsked (x : Inputs) (i : ℕ) (work block : List ℤ) : Type 0 where
-  pub inputs : Checked x
   pub row : i < x.source.size.rows
   pub before : Held x i work block
   pub room_work : length work ≡ x.source.size.columns

@@ -1,16 +1,15 @@
 // The window sums of a plane, row after row. They are made 16 rows at a time, since many rows cost less than as many single ones.
-// For callers that have checked their inputs.
 #![tactic(auto)]
 
-ghost use Rattle.picture.specs.Given.{inputs_of};
+ghost use Rattle.picture.specs.Checked.{checked_inputs};
 ghost use Rattle.blocks.specs.Blocks.{RowAsked, RowSums};
 
-use picture::Inputs;
+use picture::CheckedInputs;
 
 // The sums of row i stand in the block, at the place of its row in 16; the rows of the block before it were asked for first.
-pub fn next(i: usize, inputs: &Inputs<'_>, work: &mut [i64], block: &mut [i64])
-    requires { RowAsked (inputs_of inputs.now) i work.old block.old }
-    ensures { RowSums (inputs_of inputs.now) i work.new block.new }
+pub fn next(i: usize, inputs: &CheckedInputs<'_>, work: &mut [i64], block: &mut [i64])
+    requires { RowAsked (checked_inputs inputs.now) i work.old block.old }
+    ensures { RowSums (checked_inputs inputs.now) i work.new block.new }
 {
     if i % 16 != 0 {
         return;

@@ -10,18 +10,18 @@ use statistics::Sums;
 pub fn unbounded(z: Sums) -> bool
     ensures { result ≡ unbounded z }
 {
-    let n = z.n;
-    if !(0..=65025).contains(&n) {
+    if !(0..=65025).contains(&z.n) {
         return true;
     }
-    let sum_bound = 32768 * (n as u64);
-    let square_bound = 1073741824 * n;
+    let count = z.n as u64;
+    let sum_bound = 32768 * count;
+    let square_bound = 1073741824 * count;
     // All tests at once: with `||`, a branch for each, the proof stays open.
     (z.s.unsigned_abs() > sum_bound)
         | (z.t.unsigned_abs() > sum_bound)
         | (z.a < 0)
-        | (z.a > square_bound)
+        | (z.a.unsigned_abs() > square_bound)
         | (z.b < 0)
-        | (z.b > square_bound)
-        | (z.p.unsigned_abs() > square_bound as u64)
+        | (z.b.unsigned_abs() > square_bound)
+        | (z.p.unsigned_abs() > square_bound)
 }

@@ -1,4 +1,5 @@
 // The C interface to smoothing a picture. `replies` says what a call asks and hands back.
+// C gives its arguments one by one, and a shape, a plane and a kind as numbers.
 #![tactic(auto)]
 
 ghost use Rattle.std.specs.Prelude.{◌≡◌};

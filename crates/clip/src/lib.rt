@@ -4,7 +4,7 @@
 ghost use Rattle.std.specs.Prelude.{◌≡◌, suc, ◌+◌, ◌-◌, ◌<◌, min};
 ghost use Rattle.numbers.specs.Sum.{dist};
 
-// The first place at most r before i.
+// The first place at most r before i. std's method: it has a name here, so that its promise in the words of the definitions stands once.
 pub fn low(i: usize, r: usize) -> usize
     ensures { result ≡ i - r }
 {
@@ -19,7 +19,7 @@ pub fn high(i: usize, r: usize, n: usize) -> usize
     (i + 1).saturating_add(r).min(n)
 }
 
-// How far apart two places are.
+// How far apart two places are. std's method, named here for the same reason.
 pub fn distance(i: usize, m: usize) -> usize
     ensures { result ≡ dist i m }
 {

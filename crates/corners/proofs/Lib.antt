@@ -1,1 +1,1 @@
-mod Rectangles
+pub mod Rectangles

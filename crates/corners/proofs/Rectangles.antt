@@ -3,7 +3,6 @@
 use mathlib.Core.Path.{◌≡◌, refl, sym, ◌∙◌, ap}
 use mathlib.Core.List.{List}
 use Prim.Native.Nat.{ℕ, zero, suc, ◌+◌, ◌-◌, ◌*◌, ◌≤◌, ◌<◌, min}
-use native.Mathlib.Numerals.{add-one}
 use native.Mathlib.Omega.{arith}
 use mathlib.Core.Bool.{true, false, true≢false}
 use lib.Dec.{T}
@@ -16,13 +15,12 @@ use Rattle.numbers.proofs.Sums.{near-range}
 use Rattle.numbers.proofs.Running.{wrap-wrap}
 use Rattle.numbers.proofs.Wraps.{wrap-add, wrap-sub}
 use Rattle.picture.specs.declared.Size.{Size}
-use Rattle.picture.specs.Size.{row_gap}
+use Rattle.picture.specs.Size.{size_legal, row_gap, cells}
 use Rattle.picture.specs.Window.{Shape, rectangle, slanted, window_legal, shape_of, is_rectangle, height, reach, width}
 use Rattle.picture.specs.declared.Window.{Window}
-use Rattle.picture.proofs.Refusals.{in-limits}
+use Rattle.picture.proofs.Refusals.{InLimits, in-limits}
 use Rattle.picture.proofs.Windows.{dual, small}
 use Rattle.cumulative.specs.Table.{corner, four_corners, read_rectangle, read_rows, read_shape}
-use Rattle.corners.specs.Corners.{Readable}
 
 -- ---- a corner
 module _ (z : Size) (t : List ℤ) where
@@ -38,20 +36,23 @@ module _ (z : Size) (t : List ℤ) where
   corner-left (suc x) zero e = refl
   corner-left (suc x) (suc y) e = absurd (omega arith)
 
-  pub corner-inner : (x y i j : ℕ) → 0 < x → 0 < y → i ≡ min (x - 1) (z.rows - 1) → j ≡ min (y - 1) (z.columns - 1) → get_or t (i * z.columns + j) (pos 0) ≡ corner z t x y
-  unfolding corner
-  corner-inner zero y i j h k p q = absurd (omega arith)
-  corner-inner (suc x) zero i j h k p q = absurd (omega arith)
-  corner-inner (suc x) (suc y) i j h k p q =
-      let p' : i ≡ min x (z.rows - 1) = omega arith in
-      let q' : j ≡ min y (z.columns - 1) = omega arith in
-      rw (p', q')
+  -- the last row and column that x and y reach
+  module _ (legal : T (size_legal z)) where
+    lim : InLimits z
+    lim = in-limits z legal
 
-  -- the place that is read is one of the table's
-  pub corner-place : (x y i j : ℕ) → Readable z t → i ≡ min (x - 1) (z.rows - 1) → j ≡ min (y - 1) (z.columns - 1) → i * z.columns + j < length t
-  corner-place x y i j h p q =
-      let l = in-limits z h.legal in
-      rw h.full (place_inside (omega (arith, l.some_rows)) (omega (arith, l.some_columns)))
+    pub corner-inner : (x y u v : ℕ) → 0 < x → 0 < y → u ≡ min x z.rows → v ≡ min y z.columns → get_or t ((u - 1) * z.columns + (v - 1)) (pos 0) ≡ corner z t x y
+    unfolding corner
+    corner-inner zero y u v h k p q = absurd (omega arith)
+    corner-inner (suc x) zero u v h k p q = absurd (omega arith)
+    corner-inner (suc x) (suc y) u v h k p q =
+        let p' : u - 1 ≡ min x (z.rows - 1) = omega (arith, lim.some_rows) in
+        let q' : v - 1 ≡ min y (z.columns - 1) = omega (arith, lim.some_columns) in
+        rw (p', q')
+
+    -- the place that is read is one of the table's
+    pub corner-place : (x y u v : ℕ) → length t ≡ cells z → u ≡ min x z.rows → v ≡ min y z.columns → (u - 1) * z.columns + (v - 1) < length t
+    corner-place x y u v full p q = rw full (place_inside (omega (arith, lim.some_rows)) (omega (arith, lim.some_columns)))
 
 -- ---- four corners
 wrap-four : (a b c d : ℤ) → wrap (wrap (wrap (a -ℤ b) -ℤ c) +ℤ d) ≡ wrap (a -ℤ b -ℤ c +ℤ d)
@@ -65,13 +66,6 @@ pub four-read : (z : Size) (t : List ℤ) (top bottom left right : ℕ) (a b c d
 unfolding four_corners
 four-read z t top bottom left right a b c d v w r ea eb ec ed ev ew er =
     rw (er, ew, ev, ← ea, ← eb, ← ec, ← ed) (wrap-four a b c d)
-
--- the corners of the rectangle on a cell
-pub rectangle-read : (z : Size) (t : List ℤ) (a b i j top bottom left right : ℕ) (r : ℤ)
-    → top ≡ i - a → bottom ≡ i + a + 1 → left ≡ j - b → right ≡ j + b + 1
-    → r ≡ wrap (four_corners z t top bottom left right) → r ≡ wrap (read_rectangle z t a b i j)
-rectangle-read z t a b i j top bottom left right r et eb el er e =
-    rw (e, et, eb, el, er, add-one, add-one)
 
 -- ---- a window row by row
 -- the part of row m that lies in the window on (i, j)

@@ -2,103 +2,92 @@
 // For callers that have checked their inputs.
 #![tactic(auto)]
 
-ghost use Rattle.std.specs.Prelude.{◌≡◌, ◌-◌, ◌≤◌, ◌<◌, min, T};
+ghost use Rattle.std.specs.Prelude.{◌≡◌, ◌≤◌, T, length};
 ghost use Rattle.numbers.specs.Wrap.{wrap};
-ghost use Rattle.picture.specs.Window.{window_legal, shape_of};
+ghost use Rattle.picture.specs.Size.{size_legal, cells};
+ghost use Rattle.picture.specs.Window.{shape_of};
+ghost use Rattle.picture.specs.Checked.{given};
 ghost use Rattle.cumulative.specs.Table.{corner, four_corners, read_rectangle, read_rows, read_table};
-ghost use Rattle.corners.specs.Corners.{Readable, ReadableAt};
+ghost use Rattle.corners.specs.Corners.{Within};
 
-use picture::{Cell, Size, Window};
+use picture::{Cell, CheckedWindow, Size};
+use std::ops::Range;
 
-// The last of n places that is before x.
-fn last_before(x: usize, n: usize) -> usize
-    requires { (0 < x) × (0 < n) }
-    ensures { result ≡ min (x - 1) (n - 1) }
-{
-    if x < n { x - 1 } else { n - 1 }
+// A number for each cell of a picture of a legal size: a table, whatever it holds.
+#[derive(Clone, Copy)]
+pub struct Table<'a> {
+    pub size: Size,
+    pub numbers: &'a [i64],
+    pub ghost legal: { T (size_legal size) },
+    pub ghost full: { length numbers.now ≡ cells size },
 }
 
-// The table's number with x rows and y columns up to it: "T being 0 left of and above the picture, and a corner past its last
-// row or column being taken on that last one".
-fn corner(size: Size, table: &[i64], x: usize, y: usize) -> i64
-    requires { Readable size table.now }
-    ensures { result ≡ corner size table.now x y }
-{
-    let rows = size.rows;
-    let columns = size.columns;
-    if x == 0 {
-        return 0;
+impl Table<'_> {
+    // The table's number with x rows and y columns up to it: "T being 0 left of and above the picture, and a corner past its last
+    // row or column being taken on that last one".
+    fn corner(&self, x: usize, y: usize) -> i64
+        ensures { result ≡ corner self.now.size self.now.numbers.now x y }
+    {
+        if x == 0 || y == 0 {
+            return 0;
+        }
+        let row = x.min(self.size.rows) - 1;
+        let column = y.min(self.size.columns) - 1;
+        self.numbers[row * self.size.columns + column]
     }
-    if y == 0 {
-        return 0;
+
+    // "the four corners of equation 7": the sum of a range of rows and a range of columns.
+    fn four_corners(&self, rows: Range<usize>, columns: Range<usize>) -> i64
+        ensures { result ≡ wrap (four_corners self.now.size self.now.numbers.now rows.start rows.end columns.start columns.end) }
+    {
+        let bottom_right = self.corner(rows.end, columns.end);
+        let top_right = self.corner(rows.start, columns.end);
+        let bottom_left = self.corner(rows.end, columns.start);
+        let top_left = self.corner(rows.start, columns.start);
+        let up_to_right = wrapping::wrapping_sub(bottom_right, top_right);
+        let without_left = wrapping::wrapping_sub(up_to_right, bottom_left);
+        wrapping::wrapping_add(without_left, top_left)
     }
-    let row = last_before(x, rows);
-    let column = last_before(y, columns);
-    table[row * columns + column]
-}
 
-// "the four corners of equation 7": the rows from top and the columns from left, up to bottom and right and without those.
-fn four_corners(
-    size: Size,
-    table: &[i64],
-    top: usize,
-    bottom: usize,
-    left: usize,
-    right: usize,
-) -> i64
-    requires { Readable size table.now }
-    ensures { result ≡ wrap (four_corners size table.now top bottom left right) }
-{
-    let bottom_right = corner(size, table, bottom, right);
-    let top_right = corner(size, table, top, right);
-    let bottom_left = corner(size, table, bottom, left);
-    let top_left = corner(size, table, top, left);
-    let up_to_right = wrapping::wrapping_sub(bottom_right, top_right);
-    let without_left = wrapping::wrapping_sub(up_to_right, bottom_left);
-    wrapping::wrapping_add(without_left, top_left)
-}
-
-// The rectangle of half sizes a and b on the cell (i, j).
-fn rectangle(size: Size, table: &[i64], a: usize, b: usize, i: usize, j: usize) -> i64
-    requires { ReadableAt size table.now i j × (a ≤ 127) × (b ≤ 127) }
-    ensures { result ≡ wrap (read_rectangle size table.now a b i j) }
-{
-    let top = clip::low(i, a);
-    let left = clip::low(j, b);
-    four_corners(size, table, top, i + a + 1, left, j + b + 1)
-}
-
-// "A diamond or hexagon is read as one-row rectangles."
-fn row_by_row(size: Size, table: &[i64], window: Window, cell: Cell) -> i64
-    requires { ReadableAt size table.now cell.row cell.column × T (window_legal window) }
-    ensures { result ≡ wrap (read_rows size table.now (shape_of window) cell.row cell.column) }
-{
-    let rows = size.rows;
-    let row = cell.row;
-    let column = cell.column;
-    let height = shape::height(window);
-    let end = clip::high(row, height, rows);
-    let mut sum = 0i64;
-    for m in clip::low(row, height)..end {
-        let distance = clip::distance(row, m);
-        let reach = reaches::reach(window, distance);
-        let part = rectangle(size, table, 0, reach, m, column);
-        sum = wrapping::wrapping_add(sum, part);
+    // The rectangle of half sizes a and b on the cell (i, j).
+    fn rectangle(&self, a: usize, b: usize, i: usize, j: usize) -> i64
+        requires { Within self.now.size i j × (a ≤ 127) × (b ≤ 127) }
+        ensures { result ≡ wrap (read_rectangle self.now.size self.now.numbers.now a b i j) }
+    {
+        let top = clip::low(i, a);
+        let left = clip::low(j, b);
+        self.four_corners(top..i + a + 1, left..j + b + 1)
     }
-    sum
-}
 
-// The window sum on the cell: four corners for a rectangle, and row by row for the others.
-pub fn window_sum(size: Size, table: &[i64], window: Window, cell: Cell) -> i64
-    requires { ReadableAt size table.now cell.row cell.column × T (window_legal window) }
-    ensures { result ≡ read_table size table.now window cell.row cell.column }
-{
-    if shape::is_rectangle(window) {
-        let i = cell.row;
-        let j = cell.column;
+    // "A diamond or hexagon is read as one-row rectangles."
+    fn row_by_row(&self, window: CheckedWindow, cell: Cell) -> i64
+        requires { Within self.now.size cell.row cell.column }
+        ensures { result ≡ wrap (read_rows self.now.size self.now.numbers.now (shape_of (given window)) cell.row cell.column) }
+    {
+        let row = cell.row;
         let height = shape::height(window);
-        let width = shape::width(window);
-        return rectangle(size, table, height, width, i, j);
+        let end = clip::high(row, height, self.size.rows);
+        let mut sum = 0i64;
+        for m in clip::low(row, height)..end {
+            let distance = clip::distance(row, m);
+            let reach = reaches::reach(window, distance);
+            let part = self.rectangle(0, reach, m, cell.column);
+            sum = wrapping::wrapping_add(sum, part);
+        }
+        sum
     }
-    row_by_row(size, table, window, cell)
+
+    // The window sum on the cell: four corners for a rectangle, and row by row for the others.
+    pub fn window_sum(&self, window: CheckedWindow, cell: Cell) -> i64
+        requires { Within self.now.size cell.row cell.column }
+        ensures { result ≡ read_table self.now.size self.now.numbers.now (given window) cell.row cell.column }
+    {
+        if shape::is_rectangle(window) {
+            let height = shape::height(window);
+            let width = shape::width(window);
+            self.rectangle(height, width, cell.row, cell.column)
+        } else {
+            self.row_by_row(window, cell)
+        }
+    }
 }

@@ -15,7 +15,7 @@ use statistics::{Coefficient, Sums};
 use wide::{Product, Scaled, multiply, scale};
 use wide_order::scaled_at_most;
 
-// The largest c with c²·x ≤ y, by halving the numbers up to 1,000.
+// The largest c with c²·x ≤ y, by halving the numbers up to 1,000. By hand: the library halves slices by a test (`partition_point`), and no range of numbers.
 fn wide_root(y: Scaled, x: Product) -> u32
     requires { Correlated (value x) (scaled_value y) }
     ensures { result ≡ root_over (scaled_value y) (value x) }
@@ -40,16 +40,10 @@ pub fn coefficient(z: Sums) -> Result<Coefficient, Refusal>
     let Some(m) = central_moments(z)? else {
         return Ok(Coefficient::Empty);
     };
-    if m.vf == 0 {
-        return Ok(Coefficient::Flat);
-    }
-    if m.vg == 0 {
+    if m.vf == 0 || m.vg == 0 {
         return Ok(Coefficient::Flat);
     }
     let size = magnitude(m.c);
-    let largest = wide_root(scale(multiply(size, size), 1000000), multiply(m.vf, m.vg)) as i64;
-    if m.c < 0 {
-        return Ok(Coefficient::Value(0 - largest));
-    }
-    Ok(Coefficient::Value(largest))
+    let largest = wide_root(scale(multiply(size, size), 1000000), multiply(m.vf, m.vg));
+    Ok(Coefficient::Value(m.c.signum() * i64::from(largest)))
 }

@@ -13,8 +13,6 @@ use picture::{Cell, Inputs, Refusal};
 pub fn direct_sum(inputs: &Inputs<'_>, cell: Cell) -> Result<i64, Refusal>
     ensures { outcome_of result ≡ direct_call (inputs_of inputs.now) cell.row cell.column }
 {
-    check_direct(inputs, cell)?;
-    levels::known(inputs.source.f);
-    levels::known(inputs.source.g);
-    Ok(window_sums::sum(inputs, cell))
+    let checked = check_direct(inputs, cell)?;
+    Ok(window_sums::sum(&checked, cell))
 }

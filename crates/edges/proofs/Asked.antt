@@ -7,7 +7,7 @@ use native.Mathlib.Omega.{arith}
 use Rattle.picture.specs.Window.{shape_of, is_rectangle, height, width}
 use Rattle.picture.specs.Picture.{Inputs}
 use Rattle.picture.proofs.Windows.{height-width, height-small, width_small}
-use Rattle.steps.specs.Asked.{Checked}
+use Rattle.picture.proofs.Found.{Checked}
 use Rattle.kept_slopes.specs.Edges.{EdgesAsked}
 use Rattle.kept_slopes.proofs.Advances.{Fits}
 
@@ -23,11 +23,6 @@ module _ (x : Inputs) (h w : ℕ) (checked : Checked x) (slanted : is_rectangle 
 
   pub edges-asked : (i : ℕ) → i < x.source.size.rows → EdgesAsked x.source i h w
   edges-asked i inside = record {
-    size = checked.size;
-    length_f = checked.length_f;
-    length_g = checked.length_g;
-    levels_f = checked.levels_f;
-    levels_g = checked.levels_g;
     row = inside;
     low = omega (arith, high, wide, height-width (shape_of x.window) slanted);
     narrow = window-fits.narrow;

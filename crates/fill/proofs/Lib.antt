@@ -1,2 +1,2 @@
-mod RowSums
 pub mod LevelRows
+pub mod TableRows

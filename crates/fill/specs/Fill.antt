@@ -1,24 +1,16 @@
--- What filling asks of its callers.
+-- What filling asks of its callers, and what it finds.
 -- Assumes nothing.
-use Rattle.std.specs.Prelude.{◌≡◌, List, ℕ, ◌<◌, T, length, ℤ}
+use Rattle.std.specs.Prelude.{◌≡◌, List, ℕ, ◌<◌, length, get_or, ℤ, pos}
 use Rattle.picture.specs.declared.Size.{Size}
-use Rattle.picture.specs.Size.{size_legal, cells}
-use Rattle.picture.specs.Picture.{Levels}
-use Rattle.row_sums.specs.RowSums.{RowRoom}
+use Rattle.picture.specs.Picture.{Source, plane_at}
 
--- pictures of a legal size, and an area for their table: 1, 2 and 8
-pub record Buildable (z : Size) (f g t : List ℤ) : Type 0 where
-  pub legal : T (size_legal z)
-  pub length_f : length f ≡ cells z
-  pub length_g : length g ≡ cells z
-  pub levels_f : Levels f
-  pub levels_g : Levels g
-  pub full : length t ≡ cells z
+-- levels that are row i of the plane
+pub record RowLevels (x : Source) (i : ℕ) (levels : List ℤ) : Type 0 where
+  pub width : length levels ≡ x.size.columns
+  pub same : (j : ℕ) → j < x.size.columns → get_or levels j (pos 0) ≡ plane_at x i j
 
--- pictures of a legal size, a row of it, and room for the table's row below another
-pub record RowAsked (z : Size) (f g : List ℤ) (i start : ℕ) (t : List ℤ) : Type 0 where
-  pub legal : T (size_legal z)
-  pub length_f : length f ≡ cells z
-  pub length_g : length g ≡ cells z
+-- row i of a picture, and two rows of a table of its size
+pub record RowAsked (z : Size) (i : ℕ) (above row : List ℤ) : Type 0 where
   pub inside : i < z.rows
-  pub room : RowRoom z.columns start t
+  pub width_above : length above ≡ z.columns
+  pub width : length row ≡ z.columns

@@ -3,70 +3,64 @@
 // For callers that have checked their inputs.
 #![tactic(auto)]
 
-ghost use Rattle.std.specs.Prelude.{◌≡◌};
+ghost use Rattle.std.specs.Prelude.{◌≡◌, length, IfSome};
+ghost use Rattle.numbers.specs.Grid.{tabulate};
+ghost use Rattle.picture.specs.Size.{cells};
 ghost use Rattle.picture.specs.Picture.{plane_at};
-ghost use Rattle.picture.specs.Given.{source_of};
+ghost use Rattle.picture.specs.Checked.{checked_source};
+ghost use Rattle.row_sums.specs.RowSums.{row_number};
 ghost use Rattle.cumulative.specs.Table.{table_of};
-ghost use Rattle.fill.specs.Fill.{Buildable, RowAsked};
-ghost use Rattle.row_sums.specs.RowSums.{NextRow};
+ghost use Rattle.fill.specs.Fill.{RowLevels, RowAsked};
 
 use level_sums::next_levels;
-use picture::Source;
+use overlaps::overlap_of;
+use picture::{CheckedSource, Plane};
 use row_sums::{first_row, next_row};
 
-// Row i of the table, at `start`: the plane's row is written there, and summed.
-fn row_of_values(source: &Source<'_>, i: usize, start: usize, table: &mut [i64])
-    requires { RowAsked source.now.size source.now.f.now source.now.g.now i start table.old }
-    ensures { NextRow source.now.size.columns start (plane_at (source_of source.now) i) table.old table.new }
+// Row i of the plane as a picture has it: where the plane is one of levels, and the whole row counts.
+fn levels_of<'a>(source: &CheckedSource<'a>, i: usize) -> Option<&'a [i16]>
+    ensures { IfSome result (λ levels. RowLevels (checked_source source.now) i levels.now) }
 {
     let columns = source.size.columns;
-    let end = start + columns;
-    planes::part(source, i, 0, &mut table[start..end]);
-    next_row(columns, start, table);
+    let counting = overlap_of(source.size.rows, source.shift.down);
+    let along = overlap_of(columns, source.shift.right);
+    if along.end - along.first < columns {
+        return None;
+    }
+    let line = lines::line_of(source, counting, along, i)?;
+    match source.plane {
+        Plane::F => Some(&source.f[line.f..line.f + columns]),
+        Plane::G => Some(&source.g[line.g..line.g + columns]),
+        _ => None,
+    }
 }
 
-// Row i of the table, at `start`: where the plane is one of levels and the whole row counts, straight from the levels.
-fn row(source: &Source<'_>, i: usize, start: usize, table: &mut [i64])
-    requires { RowAsked source.now.size source.now.f.now source.now.g.now i start table.old }
-    ensures { NextRow source.now.size.columns start (plane_at (source_of source.now) i) table.old table.new }
+// Row i of the table, from the row above it.
+fn table_row(source: &CheckedSource<'_>, i: usize, above: &[i64], row: &mut [i64])
+    requires { RowAsked source.now.size i above.now row.old }
+    ensures { row.new ≡ tabulate source.now.size.columns (row_number above.now (plane_at (checked_source source.now) i)) }
 {
-    let rows = source.size.rows;
-    let columns = source.size.columns;
-    let right = source.shift.right;
-    let counting = overlaps::overlap_of(rows, source.shift.down);
-    let along = overlaps::overlap_of(columns, right);
-    let line = lines::line_of(source.size, counting, along, i);
-    if line.counts {
-        if columns <= along.end - along.first {
-            let lo = line.f;
-            let hi = lo + columns;
-            let at = line.g;
-            let until = at + columns;
-            if source.plane == 1 {
-                next_levels(&source.f[lo..hi], start, table);
-                return;
-            }
-            if source.plane == 2 {
-                next_levels(&source.g[at..until], start, table);
-                return;
-            }
+    match levels_of(source, i) {
+        Some(levels) => next_levels(levels, above, row),
+        None => {
+            planes::part(source, i, 0, row);
+            next_row(above, row);
         }
     }
-    row_of_values(source, i, start, table);
 }
 
 // The whole table, row by row.
-pub fn whole(source: &Source<'_>, table: &mut [i64])
-    requires { Buildable source.now.size source.now.f.now source.now.g.now table.old }
-    ensures { table.new ≡ table_of (source_of source.now) }
+pub fn whole(source: &CheckedSource<'_>, table: &mut [i64])
+    requires { length table.old ≡ cells source.now.size }
+    ensures { table.new ≡ table_of (checked_source source.now) }
 {
-    let rows = source.size.rows;
     let columns = source.size.columns;
-    planes::part(source, 0, 0, &mut table[..columns]);
-    first_row(columns, table);
-    let mut start = columns;
-    for i in 1..rows {
-        row(source, i, start, table);
-        start += columns;
+    let first = &mut table[..columns];
+    planes::part(source, 0, 0, first);
+    first_row(first);
+    for i in 1..source.size.rows {
+        let (before, rest) = table.split_at_mut(i * columns);
+        let above = &before[(i - 1) * columns..];
+        table_row(source, i, above, &mut rest[..columns]);
     }
 }

@@ -2,11 +2,10 @@
 -- Assumes nothing.
 use Rattle.std.specs.Prelude.{◌≡◌, ℕ, List, length, ℤ}
 use Rattle.picture.specs.Picture.{Inputs}
-use Rattle.steps.specs.Asked.{Checked, StepAsked}
+use Rattle.steps.specs.Asked.{StepAsked}
 
--- inputs that were checked, a work area, and room for a row
+-- a work area, and room for a row
 pub record FirstAsked (x : Inputs) (work line : List ℤ) : Type 0 where
-  pub inputs : Checked x
   pub room_work : length work ≡ x.source.size.columns
   pub room : length line ≡ x.source.size.columns
 

@@ -1,5 +1,4 @@
 // The work area on row 0: a diamond's or hexagon's window sums, one row of the window after the other, and a rectangle's column sums.
-// For callers that have checked their inputs.
 #![tactic(auto)]
 
 ghost use Rattle.std.specs.Prelude.{◌≡◌, leb, pos, ◌+ℤ◌, get_or};
@@ -9,19 +8,25 @@ ghost use Rattle.numbers.specs.Wrap.{wrap};
 ghost use Rattle.picture.specs.Size.{column_gap};
 ghost use Rattle.picture.specs.Window.{shape_of, reach};
 ghost use Rattle.picture.specs.Picture.{plane_at};
-ghost use Rattle.picture.specs.Given.{source_of, inputs_of};
+ghost use Rattle.picture.specs.Checked.{given, checked_source, checked_inputs};
 ghost use Rattle.picture.specs.Direct.{direct_sum};
 ghost use Rattle.first_rows.specs.Asked.{FirstAsked, ReachAsked};
 
-use picture::Inputs;
+use picture::CheckedInputs;
 use steps::step;
 
 pub mod rectangle; // rectangle.rt: a rectangle's column sums of row 0
 
 // Row m of the plane comes into the work area, each cell as far to both sides as the window on row 0 reaches there. Two rooms for a row serve on the way.
-fn reaching(inputs: &Inputs<'_>, m: usize, work: &mut [i64], row: &mut [i64], cells: &mut [i64])
-    requires { ReachAsked (inputs_of inputs.now) m work.old row.old cells.old }
-    ensures { work.new ≡ tabulate inputs.now.source.size.columns (λ j. wrap (get_or work.old j (pos 0) +ℤ sum_to inputs.now.source.size.columns (λ n. pick (leb (column_gap inputs.now.source.size j n) (reach (shape_of inputs.now.window) m)) (plane_at (source_of inputs.now.source) m n)))) }
+fn reaching(
+    inputs: &CheckedInputs<'_>,
+    m: usize,
+    work: &mut [i64],
+    row: &mut [i64],
+    cells: &mut [i64],
+)
+    requires { ReachAsked (checked_inputs inputs.now) m work.old row.old cells.old }
+    ensures { work.new ≡ tabulate inputs.now.source.size.columns (λ j. wrap (get_or work.old j (pos 0) +ℤ sum_to inputs.now.source.size.columns (λ n. pick (leb (column_gap inputs.now.source.size j n) (reach (shape_of (given inputs.now.window)) m)) (plane_at (checked_source inputs.now.source) m n)))) }
 {
     let k = reaches::reach(inputs.window, m);
     planes::part(&inputs.source, m, 0, cells);
@@ -30,12 +35,13 @@ fn reaching(inputs: &Inputs<'_>, m: usize, work: &mut [i64], row: &mut [i64], ce
 }
 
 // Row 0: the window sums, one row of the window after the other.
-pub fn first(inputs: &Inputs<'_>, work: &mut [i64], row: &mut [i64])
-    requires { FirstAsked (inputs_of inputs.now) work.old row.old }
-    ensures { work.new ≡ tabulate inputs.now.source.size.columns (direct_sum (inputs_of inputs.now) 0) }
+pub fn first(inputs: &CheckedInputs<'_>, work: &mut [i64], row: &mut [i64])
+    requires { FirstAsked (checked_inputs inputs.now) work.old row.old }
+    ensures { work.new ≡ tabulate inputs.now.source.size.columns (direct_sum (checked_inputs inputs.now) 0) }
 {
     let columns = inputs.source.size.columns;
     let end = clip::high(0, shape::height(inputs.window), inputs.source.size.rows);
+    // Room for the widest row, since there is no heap.
     let mut cells = [0i64; 1024];
     plane_values::fill(work, 0);
     for m in 0..end {

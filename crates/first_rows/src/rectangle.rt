@@ -1,18 +1,16 @@
 // A rectangle's column sums: those of row 0.
-// For callers that have checked their inputs.
-ghost use Rattle.std.specs.Prelude.{◌≡◌};
+ghost use Rattle.std.specs.Prelude.{◌≡◌, length};
 ghost use Rattle.numbers.specs.Grid.{tabulate};
 ghost use Rattle.picture.specs.Picture.{plane_at};
-ghost use Rattle.picture.specs.Given.{source_of};
+ghost use Rattle.picture.specs.Checked.{checked_source};
 ghost use Rattle.session.specs.Rows.{column_sum};
-ghost use Rattle.steps.specs.Asked.{FirstColumnsAsked};
 
-use picture::Source;
+use picture::CheckedSource;
 
 // Row 0: the column sums over rows 0 to a.
-pub fn first(source: &Source<'_>, a: usize, work: &mut [i64])
-    requires { FirstColumnsAsked source.now.size source.now.f.now source.now.g.now work.old }
-    ensures { work.new ≡ tabulate source.now.size.columns (column_sum source.now.size (plane_at (source_of source.now)) a 0) }
+pub fn first(source: &CheckedSource<'_>, a: usize, work: &mut [i64])
+    requires { length work.old ≡ source.now.size.columns }
+    ensures { work.new ≡ tabulate source.now.size.columns (column_sum source.now.size (plane_at (checked_source source.now)) a 0) }
 {
     let rows = source.size.rows;
     let end = clip::high(0, a, rows);

@@ -4,7 +4,7 @@ use Rattle.std.specs.Prelude.{◌≡◌, ℕ, List, length, ℤ}
 use Rattle.picture.specs.declared.Size.{Size}
 use Rattle.steps.specs.Asked.{RowAsked}
 
--- pictures of a legal size, a row and a distance from it, a work area, and room for a row
-pub record FlatAsked (z : Size) (f g : List ℤ) (i h : ℕ) (work line : List ℤ) : Type 0 where
-  pub row : RowAsked z f g i h work
+-- a row and a distance from it, a work area, and room for a row
+pub record FlatAsked (z : Size) (i h : ℕ) (work line : List ℤ) : Type 0 where
+  pub row : RowAsked z i h work
   pub room : length line ≡ z.columns

@@ -1,5 +1,4 @@
 // The flat parts of a diamond's or hexagon's edges: the rows that enter and leave whole, summed across the row.
-// For callers that have checked their inputs.
 #![tactic(auto)]
 
 ghost use Rattle.std.specs.Prelude.{◌≡◌, leb, pos, ◌+ℤ◌, get_or};
@@ -7,24 +6,32 @@ ghost use Rattle.numbers.specs.Grid.{tabulate};
 ghost use Rattle.numbers.specs.Sum.{sum_to, pick};
 ghost use Rattle.numbers.specs.Wrap.{wrap};
 ghost use Rattle.picture.specs.Picture.{plane_at};
-ghost use Rattle.picture.specs.Given.{source_of};
+ghost use Rattle.picture.specs.Checked.{checked_source};
 ghost use Rattle.picture.specs.Size.{column_gap};
 ghost use Rattle.session.specs.Rows.{enter_leave};
 ghost use Rattle.flat.specs.Asked.{FlatAsked};
 
-use picture::Source;
+use picture::CheckedSource;
 use steps::step;
 
 // From row i to i+1, the columns at most k away at half height h: what enters and leaves there comes into the work area. The room for a row serves on the way.
-pub fn flat(source: &Source<'_>, i: usize, h: usize, k: usize, work: &mut [i64], row: &mut [i64])
-    requires { FlatAsked source.now.size source.now.f.now source.now.g.now i h work.old row.old }
-    ensures { work.new ≡ tabulate source.now.size.columns (λ j. wrap (get_or work.old j (pos 0) +ℤ sum_to source.now.size.columns (λ n. pick (leb (column_gap source.now.size j n) k) (enter_leave source.now.size (plane_at (source_of source.now)) i h n)))) }
+pub fn flat(
+    source: &CheckedSource<'_>,
+    i: usize,
+    h: usize,
+    k: usize,
+    work: &mut [i64],
+    row: &mut [i64],
+)
+    requires { FlatAsked source.now.size i h work.old row.old }
+    ensures { work.new ≡ tabulate source.now.size.columns (λ j. wrap (get_or work.old j (pos 0) +ℤ sum_to source.now.size.columns (λ n. pick (leb (column_gap source.now.size j n) k) (enter_leave source.now.size (plane_at (checked_source source.now)) i h n)))) }
 {
     if k == 0 {
         step::add_gain(source, i, h, work);
         return;
     }
     let columns = source.size.columns;
+    // Room for the widest row, since there is no heap.
     let mut change = [0i64; 1024];
     step::gain(source, i, h, &mut change[..columns]);
     across::across(&change[..columns], k, row);

@@ -1,21 +1,42 @@
 -- The search from a place on: it passes a place that fails the test, and stops at one that holds it.
 -- Assumes nothing.
-use mathlib.Core.Path.{◌≡◌, refl, ap₂}
-use Prim.Native.Nat.{ℕ, zero, suc, ◌+◌, ◌-◌, ◌≤◌, ◌<◌}
+use mathlib.Core.Path.{◌≡◌, refl, sym, ap, ap₂}
+use mathlib.Core.Bool.{Bool, true, false}
+use mathlib.Core.List.{List}
+use mathlib.Core.Option.{Option, none, some}
+use Prim.Native.Nat.{ℕ, zero, suc, ◌+◌, ◌-◌, ◌*◌, ◌≤◌, ◌<◌}
 use native.Mathlib.Numerals.{add-one}
 use native.Mathlib.Omega.{arith}
-use mathlib.Core.Bool.{Bool, true, false}
-use mathlib.Core.Option.{Option, none, some}
+use lib.Ieee.{Float}
+use lib.IntN.{ℤ}
+use mir.Facts.{to_z-of_z}
+use mir.Syntax.{w64}
+use mir.Val.{SFits, to_z, of_z}
+use Rattle.numbers.proofs.Writes.{at}
 use Rattle.picture.specs.Size.{cell}
-use Rattle.smoothed.specs.Steady.{find_column, or_else, find_cell}
+use Rattle.statistics.specs.Voice.{voice}
+use Rattle.statistics.specs.Answers.{voice_of}
+use Rattle.statistics.specs.declared.Voice as declared
+use Rattle.statistics.specs.declared.Voice.TheVariants.{Empty, Steady, Grainy}
+use Rattle.smoothed.specs.Steady.{is_steady, find_column, or_else, find_cell}
+use Rattle.hearing.specs.Hearing.{first_sums, steady_in}
+
+-- ---- one cell, by the voice that was heard
+module _ (columns : ℕ) (n s a : List ℤ) (i j : ℕ) where
+  abbrev place : ℕ
+  place = i * columns + j
+
+  pub as-heard : (v : declared.Voice) → SFits w64 (at n place) → SFits w64 (at s place) → SFits w64 (at a place) →
+      voice_of v ≡ voice (first_sums (to_z w64 (of_z w64 (at n place))) (to_z w64 (of_z w64 (at s place))) (to_z w64 (of_z w64 (at a place)))) → steady_in columns n s a i j ≡ is_steady (voice_of v)
+  as-heard v f g h e = ap is_steady (sym (simp (to_z-of_z, f, g, h) at e))
+
+-- a voice that is passed over
+pub other : (v : declared.Voice) → ((level : Float) → v ≡ Steady level → ⊥) → is_steady (voice_of v) ≡ false
+other Empty h = refl
+other (Steady level) h = absurd (h level refl)
+other (Grainy grain) h = refl
 
 -- ---- along a row
--- at the start
-pub whole_row : (test : ℕ → Bool) (n : ℕ) → find_column test 0 (n - 0) ≡ find_column test 0 n
-whole_row test n =
-    let m : n - 0 ≡ n = omega arith in
-    rw m
-
 module _ (test : ℕ → Bool) (j n : ℕ) where
   pub column-passed : j < n → test j ≡ false → find_column test j (n - j) ≡ find_column test (j + 1) (n - (j + 1))
   unfolding find_column
@@ -54,12 +75,6 @@ module _ (test : ℕ → ℕ → Bool) (columns i n : ℕ) where
   no_row h =
       let m : n - i ≡ 0 = omega arith in
       rw m
-
--- at the start
-pub whole-rows : (test : ℕ → ℕ → Bool) (columns n : ℕ) → find_cell test columns 0 (n - 0) ≡ find_cell test columns 0 n
-whole-rows test columns n =
-    let m : n - 0 ≡ n = omega arith in
-    rw m
 
 -- ---- two tests that agree on the cells
 same-columns : (t u : ℕ → Bool) (j n : ℕ) → ((k : ℕ) → k < j + n → t k ≡ u k) → find_column t j n ≡ find_column u j n

@@ -1,12 +1,10 @@
 -- The first steady cell of some rows, from N, S and A of their cells.
 -- Assumes nothing.
 use Rattle.std.specs.Prelude.{◌≡◌, Bool, false, List, ℕ, ◌+◌, ◌*◌, ◌≤◌, ◌<◌, length, get_or, ℤ, pos}
-use Rattle.std.proofs.Math.Option.{none, some}
-use Rattle.picture.specs.declared.Cell.{Cell}
 use Rattle.statistics.specs.declared.Sums.{Sums}
 use Rattle.statistics.specs.SixSums.{impossible}
 use Rattle.statistics.specs.Voice.{voice}
-use Rattle.smoothed.specs.Steady.{is_steady, find_cell}
+use Rattle.smoothed.specs.Steady.{is_steady}
 
 -- the six sums of f alone: those of g are 0
 abbrev pub first_sums : (n s a : ℤ) → Sums
@@ -27,8 +25,3 @@ pub record CellsAsked (rows columns : ℕ) (n s a : List ℤ) : Type 0 where
   pub room_s : rows * columns ≤ length s
   pub room_a : rows * columns ≤ length a
   pub possible : (i j : ℕ) → i < rows → j < columns → impossible (sums_at n s a (i * columns + j)) ≡ false
-
--- the first cell that passes the test, or the number of rows where none does
-pub record FirstCell (test : ℕ → ℕ → Bool) (rows columns : ℕ) (c : Cell) : Type 0 where
-  pub found : c.row < rows → find_cell test columns 0 rows ≡ some c
-  pub nowhere : rows ≤ c.row → find_cell test columns 0 rows ≡ none

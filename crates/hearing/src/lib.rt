@@ -3,10 +3,12 @@
 #![tactic(auto)]
 
 ghost use Rattle.std.specs.Prelude.{◌≡◌, false};
+ghost use Rattle.picture.specs.Answers.{option_of};
+ghost use Rattle.smoothed.specs.Steady.{find_cell};
 ghost use Rattle.statistics.specs.SixSums.{impossible};
 ghost use Rattle.statistics.specs.Voice.{voice};
 ghost use Rattle.statistics.specs.Answers.{voice_of};
-ghost use Rattle.hearing.specs.Hearing.{first_sums, steady_in, CellsAsked, FirstCell};
+ghost use Rattle.hearing.specs.Hearing.{first_sums, steady_in, CellsAsked};
 
 use picture::Cell;
 use statistics::{Sums, Voice};
@@ -30,25 +32,21 @@ fn heard(n: i64, s: i64, a: i64) -> Voice
     }
 }
 
-// "the search leaves both rows and columns at the first hit": the first steady cell of rows whose sums stand in n, s and a; the number of rows where none is.
-pub fn first(rows: usize, columns: usize, n: &[i64], s: &[i64], a: &[i64]) -> Cell
+// "the search leaves both rows and columns at the first hit": the first steady cell of rows whose sums stand in n, s and a, in row order.
+pub fn first(rows: usize, columns: usize, n: &[i64], s: &[i64], a: &[i64]) -> Option<Cell>
     requires { CellsAsked rows columns n.now s.now a.now }
-    ensures { FirstCell (steady_in columns n.now s.now a.now) rows columns result }
+    ensures { option_of result ≡ find_cell (steady_in columns n.now s.now a.now) columns 0 rows }
 {
-    let mut i = 0;
-    let mut j = 0;
-    'search: while i < rows {
-        let from = i * columns;
-        j = 0;
-        while j < columns {
-            let k = from + j;
+    let mut found = None;
+    'search: for i in 0..rows {
+        for j in 0..columns {
+            let k = i * columns + j;
             let Voice::Steady(_) = heard(n[k], s[k], a[k]) else {
-                j += 1;
                 continue;
             };
+            found = Some(Cell { row: i, column: j });
             break 'search;
         }
-        i += 1;
     }
-    Cell { row: i, column: j }
+    found
 }

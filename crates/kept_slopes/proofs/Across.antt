@@ -28,7 +28,7 @@ use Rattle.session.specs.Rows.{strip, Advanced, work_value, work_after}
 use Rattle.session.proofs.Strips.{output-slanted, put-behind, first-and-rest}
 use Rattle.session.proofs.Steps.{window-fits}
 use Rattle.slopes.specs.Slopes.{padded, rising, falling}
-use Rattle.steps.specs.Asked.{Checked}
+use Rattle.picture.proofs.Found.{Checked}
 use Rattle.kept_slopes.specs.Edges.{Slopes, across_slopes, TopDone, FromDone}
 use Rattle.kept_slopes.proofs.First.{first_step}
 

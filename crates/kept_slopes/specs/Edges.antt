@@ -3,13 +3,11 @@
 use Rattle.std.specs.Prelude.{◌≡◌, ℕ, zero, suc, ◌+◌, ◌-◌, ◌*◌, ◌≤◌, ◌<◌, Bool, false, not, List, T, length, get_or, take, ℤ, pos, ◌+ℤ◌, ◌-ℤ◌}
 use Rattle.numbers.specs.Grid.{tabulate}
 use Rattle.numbers.specs.Wrap.{wrap}
-use Rattle.picture.specs.Size.{size_legal, cells}
 use Rattle.picture.specs.Window.{shape_of, is_rectangle, height, width}
-use Rattle.picture.specs.Picture.{Source, Inputs, Levels, plane_at}
+use Rattle.picture.specs.Picture.{Source, Inputs, plane_at}
 use Rattle.session.specs.Rows.{work_after, strip, Advanced}
 use Rattle.slopes.specs.Slopes.{padded, rising, falling, edges_change}
 use Rattle.slopes.specs.Leans.{Blank, Holds}
-use Rattle.steps.specs.Asked.{Checked}
 
 -- n cells of each slope of row y, in the m'th row of a call. A slope that rises has moved left by m places, one that falls right by m: the slopes of
 -- column j stand at 128 + m + j and at 384 - m + j.
@@ -25,13 +23,8 @@ pub record Rows (columns : ℕ) (a b c : List ℤ) : Type 0 where
   pub blank_b : Blank b columns
   pub blank_c : Blank c columns
 
--- pictures of levels, a row of them, and a slanted window's height and width
+-- a row of the picture, and a slanted window's height and width
 pub record EdgesAsked (x : Source) (i h w : ℕ) : Type 0 where
-  pub size : T (size_legal x.size)
-  pub length_f : length x.f ≡ cells x.size
-  pub length_g : length x.g ≡ cells x.size
-  pub levels_f : Levels x.f
-  pub levels_g : Levels x.g
   pub row : i < x.size.rows
   pub low : h ≤ w
   pub narrow : w ≤ 127
@@ -101,9 +94,8 @@ pub record LeavingDone (x : Source) (i m h w : ℕ) (before a b c rises falls wo
   pub row : RowDone x i m h w before a b c rises falls work out
   pub leaving : Holds c (padded (plane_at x) (129 + i - h))
 
--- checked inputs with a slanted window, rows of the picture behind row i, a work area, and room for those rows
+-- a slanted window, rows of the picture behind row i, a work area, and room for those rows
 pub record ManyAsked (x : Inputs) (i n : ℕ) (work out : List ℤ) : Type 0 where
-  pub inputs : Checked x
   pub slanted : is_rectangle (shape_of x.window) ≡ false
   pub rows : i + n < x.source.size.rows
   pub room_work : length work ≡ x.source.size.columns
@@ -118,9 +110,8 @@ pub record AfterAsked (holds : ℕ → Type 0) (x : Inputs) (i n : ℕ) (a b c r
   pub slopes : Slopes (padded (plane_at x.source)) x.source.size.columns (width (shape_of x.window)) (height (shape_of x.window)) (128 + i) 0 rises falls
   pub leaving : Holds c (padded (plane_at x.source) (128 + i - height (shape_of x.window)))
 
--- checked inputs with a window that has slopes, the first rows of the picture, one at least, a work area, and room for those rows
+-- a window that has slopes, the first rows of the picture, one at least, a work area, and room for those rows
 pub record FreshAsked (x : Inputs) (n : ℕ) (work out : List ℤ) : Type 0 where
-  pub inputs : Checked x
   pub plane : x.source.plane ≤ 2
   pub slanted : is_rectangle (shape_of x.window) ≡ false
   pub high : 1 ≤ height (shape_of x.window)
@@ -131,7 +122,6 @@ pub record FreshAsked (x : Inputs) (n : ℕ) (work out : List ℤ) : Type 0 wher
 
 -- the slopes of row 0, a work area and room for a row, where row 0 is to come by its slopes
 pub record TopAsked (x : Inputs) (fresh : Bool) (rises falls work out : List ℤ) : Type 0 where
-  pub inputs : Checked x
   pub slanted : is_rectangle (shape_of x.window) ≡ false
   pub high : T fresh → 1 ≤ height (shape_of x.window)
   pub slopes : T fresh → Slopes (padded (plane_at x.source)) x.source.size.columns (width (shape_of x.window)) (height (shape_of x.window)) 128 0 rises falls
@@ -150,7 +140,6 @@ pub record TopDone (x : Inputs) (fresh : Bool) (before work out : List ℤ) (beg
 
 -- n rows behind row i, and row 0 before them where they are fresh
 pub record FromAsked (holds : ℕ → Type 0) (x : Inputs) (fresh : Bool) (i n : ℕ) (work out : List ℤ) : Type 0 where
-  pub inputs : Checked x
   pub plane : holds x.source.plane
   pub slanted : is_rectangle (shape_of x.window) ≡ false
   pub high : T fresh → 1 ≤ height (shape_of x.window)

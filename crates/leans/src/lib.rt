@@ -119,6 +119,7 @@ impl Slope for i64 {
 }
 
 // sums[x + s] gains a[x + pa] and loses b[x + pb], for x below n.
+#[tactic(auto, using(slopes::proofs::Loops::moved_none))]
 pub fn gather<S: Slope>(
     a: &[S::Value; 1536],
     b: &[S::Value; 1536],
@@ -137,6 +138,7 @@ pub fn gather<S: Slope>(
 }
 
 // sums[x + s] gains a[x + pa] and c[x + pd], and loses b[x + pb] and b[x + pc], for x below n.
+#[tactic(auto, using(slopes::proofs::Loops::moved_none))]
 pub fn slide<S: Slope>(
     a: &[S::Value; 1536],
     b: &[S::Value; 1536],

@@ -2,19 +2,18 @@
 // For callers that have checked their inputs.
 #![tactic(auto)]
 
-ghost use Rattle.std.specs.Prelude.{pos, length, get_or};
-ghost use Rattle.row_sums.specs.RowSums.{RowRoom, NextRow};
+ghost use Rattle.std.specs.Prelude.{◌≡◌, length};
+ghost use Rattle.numbers.specs.Grid.{tabulate};
+ghost use Rattle.row_sums.specs.RowSums.{number, row_number};
 
-// The table's row at `start`, from a row of levels and the row above it.
-pub fn next_levels(levels: &[i16], start: usize, table: &mut [i64])
-    requires { RowRoom (length levels.now) start table.old }
-    ensures { NextRow (length levels.now) start (λ q. get_or levels.now q (pos 0)) table.old table.new }
+// A row of the table, from a row of levels and the row above it.
+pub fn next_levels(levels: &[i16], above: &[i64], row: &mut [i64])
+    requires { (length levels.now ≡ length row.old) × (length above.now ≡ length row.old) }
+    ensures { row.new ≡ tabulate (length row.old) (row_number above.now (number levels.now)) }
 {
-    let columns = levels.len();
-    let above = start - columns;
     let mut sum = 0i64;
-    for j in 0..columns {
+    for j in 0..row.len() {
         sum = wrapping::wrapping_add(sum, levels[j] as i64);
-        table[start + j] = wrapping::wrapping_add(table[above + j], sum);
+        row[j] = wrapping::wrapping_add(above[j], sum);
     }
 }

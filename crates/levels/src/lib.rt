@@ -3,7 +3,7 @@
 
 ghost use Rattle.picture.specs.Picture.{Levels};
 
-// Every level is of 16 bits. The loop reads each and keeps nothing, so the compiler leaves no code of it.
+// Every level is of 16 bits. The loop stays for the proof alone, which knows what a level's type says once it is read; the compiler leaves no code of it.
 pub fn known(f: &[i16])
     ensures { Levels f.now }
 {

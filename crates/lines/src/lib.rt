@@ -2,45 +2,39 @@
 // For callers that have checked their inputs.
 #![tactic(auto)]
 
-ghost use Rattle.std.specs.Prelude.{◌≡◌};
-ghost use Rattle.lines.specs.Lines.{LineAsked, line_of};
+ghost use Rattle.std.specs.Prelude.{◌≡◌, ◌-◌, IfSome};
+ghost use Rattle.lines.specs.Lines.{LineAsked, line_of, Lies};
 
 use overlaps::Overlap;
-use picture::Size;
+use picture::CheckedSource;
 
-// A row of a plane: whether its cells count, and where the first that counts stands in f and in g.
+// A row of a plane: where the first of its cells that count stands in f and in g.
 #[derive(Clone, Copy)]
 pub struct Line {
-    pub counts: bool,
     pub f: usize,
     pub g: usize,
 }
 
-// The line of a row; `counting` are the rows that count, and `along` the columns.
-pub fn line_of(size: Size, counting: Overlap, along: Overlap, row: usize) -> Line
-    requires { LineAsked size counting along }
-    ensures { result ≡ line_of size counting along row }
+// The line of a row, if its cells count; `counting` are the rows that count, and `along` the columns.
+pub fn line_of(
+    source: &CheckedSource<'_>,
+    counting: Overlap,
+    along: Overlap,
+    row: usize,
+) -> Option<Line>
+    requires { LineAsked source.now.size counting along }
+    ensures place { result ≡ line_of source.now.size counting along row }
+    ensures lies { IfSome result (Lies source.now.f.now source.now.g.now (along.end - along.first)) }
 {
-    let columns = size.columns;
+    let columns = source.size.columns;
     let top = counting.first;
-    let bottom = counting.end;
-    let other = counting.other;
-    let none = Line {
-        counts: false,
-        f: 0,
-        g: 0,
-    };
-    if row < top {
-        return none;
-    }
-    if bottom <= row {
-        return none;
+    if row < top || counting.end <= row {
+        return None;
     }
     let lo = row * columns;
-    let at = (other + (row - top)) * columns;
-    Line {
-        counts: true,
+    let at = (counting.other + (row - top)) * columns;
+    Some(Line {
         f: lo + along.first,
         g: at + along.other,
-    }
+    })
 }

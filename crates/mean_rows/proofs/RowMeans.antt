@@ -1,6 +1,6 @@
 -- The means of a row from its rows of N and S, and the picture with the row put in place.
 -- Assumes nothing.
-use mathlib.Core.Path.{◌≡◌, ◌∙◌, ap, ap₂}
+use mathlib.Core.Path.{◌≡◌, ◌∙◌, ap, ap₂, subst}
 use Prim.Native.Nat.{ℕ, ◌+◌, ◌-◌, ◌*◌, ◌≤◌, ◌<◌}
 use native.Mathlib.Omega.{arith}
 use mathlib.Core.List.{List}
@@ -15,11 +15,12 @@ use Rattle.picture.specs.declared.Size.{Size}
 use Rattle.picture.specs.declared.Window.{Window}
 use Rattle.picture.specs.Picture.{Inputs}
 use Rattle.picture.specs.Direct.{direct_sum}
-use Rattle.steps.specs.Asked.{Checked}
+use Rattle.picture.proofs.Found.{Checked}
 use Rattle.statistics.specs.SixSums.{on_plane, six_sums}
 use Rattle.statistics.specs.Moments.{mean}
 use Rattle.statistics.proofs.Possible.{sums-fair, count-bound}
 use Rattle.smoothed.specs.Smoothing.{alone}
+use Rattle.blocks.specs.Blocks.{RowSums}
 use Rattle.means.specs.Means.{LevelMean, MeansAsked, means_of}
 use Rattle.smoothed.proofs.Means.{counted, mean-level}
 
@@ -36,6 +37,11 @@ row_of r columns block e h =
       size = slice-length (r * columns) (r * columns + columns) block (omega arith) room ∙ span;
       each = λ j l. slice_at (r * columns) (r * columns + columns) block (omega arith) room j (omega arith);
     }
+
+-- the sums of inputs y that are x on a plane, where x is a picture alone
+pub alone-sums : (x y : Inputs) (k : ℕ) → y ≡ on_plane x k → x ≡ alone x.source.size x.source.f x.window → (i : ℕ) (work block : List ℤ) → RowSums y i work block →
+    RowSums (on_plane (alone x.source.size x.source.f x.window) k) i work block
+alone-sums x y k e a i work block r = subst (λ (z : Inputs). RowSums z i work block) (e ∙ ap (λ (z : Inputs). on_plane z k) a) r
 
 -- a row put in place behind the rows before it
 pub put-line : (f : ℕ → ℕ → ℤ) (c i lo : ℕ) (l part : List ℤ) → Lines f c l i → lo ≡ i * c → lo + c ≤ length l → length part ≡ c →

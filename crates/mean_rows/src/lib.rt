@@ -1,43 +1,31 @@
 // The mean at every cell: N and S of a row from its row steps, and the mean of each of its cells.
-// For callers that have checked their inputs.
 #![tactic(auto)]
 
 ghost use Rattle.std.specs.Prelude.{◌≡◌};
 ghost use Rattle.smoothed.specs.Smoothing.{smoothed};
 ghost use Rattle.mean_rows.specs.Asked.{SmoothAsked, MeanRowsAsked};
+ghost use Rattle.picture.specs.Checked.{given, checked_inputs};
 
 use blocks::next;
 use means::row_means;
-use picture::{Inputs, Shift, Size, Source, Window};
+use picture::{CheckedInputs, Plane};
 
-// The means of every row; counts and totals are room for a row each, n and s for 16 rows.
+// The means of every row of a picture alone; counts and totals are room for a row each, n and s for 16 rows.
 fn every_row(
-    size: Size,
-    f: &[i16],
-    window: Window,
+    inputs: &CheckedInputs<'_>,
     counts: &mut [i64],
     totals: &mut [i64],
     n: &mut [i64],
     s: &mut [i64],
     out: &mut [i16],
 )
-    requires { MeanRowsAsked size f.now window counts.old totals.old n.old s.old out.old }
-    ensures { out.new ≡ smoothed size f.now window }
+    requires { MeanRowsAsked (checked_inputs inputs.now) counts.old totals.old n.old s.old out.old }
+    ensures { out.new ≡ smoothed inputs.now.source.size inputs.now.source.f.now (given inputs.now.window) }
 {
-    let rows = size.rows;
-    let columns = size.columns;
-    let source = Source {
-        size,
-        f,
-        g: f,
-        shift: Shift { down: 0, right: 0 },
-        plane: 0,
-    };
-    let ones = Inputs { source, window };
-    let levels = Inputs {
-        source: Source { plane: 1, ..source },
-        window,
-    };
+    let rows = inputs.source.size.rows;
+    let columns = inputs.source.size.columns;
+    let ones = inputs.on_plane(Plane::One);
+    let levels = inputs.on_plane(Plane::F);
     let mut start = 0;
     for i in 0..rows {
         let end = start + columns;
@@ -50,21 +38,19 @@ fn every_row(
     }
 }
 
-// The whole, with the room on the stack.
-pub fn whole(size: Size, f: &[i16], window: Window, out: &mut [i16])
-    requires { SmoothAsked size f.now window out.old }
-    ensures { out.new ≡ smoothed size f.now window }
+// The means of a picture alone, with the room on the stack, since there is no heap. The arrays stand apart: two fields of one that is lent cannot be lent on together.
+pub fn whole(inputs: &CheckedInputs<'_>, out: &mut [i16])
+    requires { SmoothAsked (checked_inputs inputs.now) out.old }
+    ensures { out.new ≡ smoothed inputs.now.source.size inputs.now.source.f.now (given inputs.now.window) }
 {
-    let columns = size.columns;
+    let columns = inputs.source.size.columns;
     let mut counts = [0i64; 1024];
     let mut totals = [0i64; 1024];
     let room = 16 * columns;
     let mut n = [0i64; 16384];
     let mut s = [0i64; 16384];
     every_row(
-        size,
-        f,
-        window,
+        inputs,
         &mut counts[..columns],
         &mut totals[..columns],
         &mut n[..room],

@@ -1,8 +1,8 @@
 -- The laws of lists written out from a function.
 -- Assumes nothing.
 use mathlib.Core.Path.{◌≡◌, refl, sym, ◌∙◌, ap, ap₂}
-use mathlib.Core.List.{List, [], ◌∷◌, ◌++◌, append_assoc}
-use Prim.Native.Nat.{ℕ, zero, suc, ◌+◌, ◌-◌, ◌*◌, ◌≤◌, ◌<◌}
+use mathlib.Core.List.{◌∷◌, ◌++◌, append_assoc}
+use Prim.Native.Nat.{ℕ, zero, suc, ◌+◌, ◌*◌, ◌≤◌, ◌<◌}
 use native.Mathlib.Omega.{arith}
 use native.Mathlib.Nat.{add-zero, add-suc}
 use lib.ListN.{length, get_or, length-append, get_or-append}
@@ -54,13 +54,6 @@ module _ {A : Type 0} where
       let e : i + suc n ≡ suc i + n = omega arith in
       let z : suc n + m ≡ suc (n + m) = omega arith in
       rw (e, z, rows_join (suc i) n m c f) (sym (append_assoc (tabulate c (f i)) (rows_from (suc i) n c f) (rows_from (suc i + n) m c f)))
-
-  pub rows-cong : (i n c : ℕ) (f g : ℕ → ℕ → A) → ((k j : ℕ) → i ≤ k → k < i + n → j < c → f k j ≡ g k j) → rows_from i n c f ≡ rows_from i n c g
-  unfolding rows_from
-  rows-cong i zero c f g h = refl
-  rows-cong i (suc n) c f g h =
-      ap₂ ◌++◌ (tabulate-cong c (f i) (g i) (λ j l. h i j (omega arith) (omega arith) l))
-      (rows-cong (suc i) n c f g (λ k j l m o. h k j (omega arith) (omega arith) o))
 
 -- a place of a picture is a place of its list
 pub place_inside : {rows columns m n : ℕ} → m < rows → n < columns → m * columns + n < rows * columns

@@ -1,11 +1,10 @@
 -- The ring laws that lib.IntN lacks, and the laws of the order, by omega over Diff's laws. Assumes nothing.
-use mathlib.Core.Path.{◌≡◌, refl, sym, ap, ◌∙◌, subst}
-use Prim.Native.Nat.{ℕ, zero, suc, ◌+◌, ◌*◌, ◌-◌, ◌≤◌, ◌<◌}
+use mathlib.Core.Path.{◌≡◌, sym, ap, ◌∙◌}
+use Prim.Native.Nat.{ℕ, zero, suc, ◌*◌}
 use native.Mathlib.Omega.{arith}
-use native.Mathlib.Nat.{mul-le-mul_left}
 use lib.IntN.{ℤ, pos, negsuc, neg_ℤ, ◌+ℤ◌, ◌-ℤ◌, ◌*ℤ◌, *ℤ_comm, +ℤ_assoc, +ℤ_comm}
 use lib.Signed.{◌≤ℤ◌, ◌<ℤ◌}
-use Rattle.numbers.proofs.Integers.{up, dn, add-law, sub-lawℤ, mul-law, up_neg, dn-neg, eqℤ, of_eq, leℤ, of_le, ltℤ, of_lt}
+use Rattle.numbers.proofs.Integers.{up, dn, add-law, sub-lawℤ, mul-law, up_neg, dn-neg, eqℤ, leℤ, of_le, ltℤ, of_lt}
 
 pub mul-addℤ : (x y z : ℤ) → x *ℤ (y +ℤ z) ≡ x *ℤ y +ℤ x *ℤ z
 mul-addℤ x y z = eqℤ (x *ℤ (y +ℤ z)) (x *ℤ y +ℤ x *ℤ z)
@@ -69,12 +68,6 @@ sub-of-le x y h = leℤ (pos 0) (y -ℤ x) (omega (arith, of_le h, sub-lawℤ y 
 pub sq-nonneg : (x : ℤ) → pos 0 ≤ℤ (x *ℤ x)
 sq-nonneg (pos a) = leℤ (pos 0) (pos a *ℤ pos a) (omega arith)
 sq-nonneg (negsuc a) = leℤ (pos 0) (negsuc a *ℤ negsuc a) (omega arith)
-
-pub mul-nonneg : (x y : ℤ) → pos 0 ≤ℤ x → pos 0 ≤ℤ y → pos 0 ≤ℤ (x *ℤ y)
-mul-nonneg (pos a) (pos b) h k = leℤ (pos 0) (pos a *ℤ pos b) (omega arith)
-mul-nonneg (pos a) (negsuc b) h k = absurd k.le
-mul-nonneg (negsuc a) (pos b) h k = absurd h.le
-mul-nonneg (negsuc a) (negsuc b) h k = absurd h.le
 
 -- a product that is not negative, with a positive factor
 pub pos-cancel : (x y : ℤ) → pos 0 <ℤ x → pos 0 ≤ℤ (x *ℤ y) → pos 0 ≤ℤ y

@@ -14,5 +14,3 @@ pub mod Writes
 pub mod Widths
 pub mod Running
 pub mod Lines
-pub mod Divisions
-pub mod Signs

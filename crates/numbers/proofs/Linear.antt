@@ -1,12 +1,11 @@
--- Identities and inequalities of ℤ by `omega`: an integer is written as a difference of two naturals, of any two, and a sum, a
+-- Identities of ℤ by `omega`: an integer is written as a difference of two naturals, of any two, and a sum, a
 -- difference and a product of integers is one of sums and products of those: `ring (search (sums, any a, any b)) (omega arith)`.
 -- Assumes nothing.
 use mathlib.Core.Path.{◌≡◌, refl, ap}
-use Prim.Native.Nat.{ℕ, ◌+◌, ◌*◌, ◌≤◌, ◌<◌}
+use Prim.Native.Nat.{ℕ, ◌+◌, ◌*◌}
 use native.Mathlib.Omega.{arith}
-use lib.Signed.{◌≤ℤ◌, mag}
-use lib.IntN.{ℤ, pos, negsuc, ◌+ℤ◌, ◌*ℤ◌, neg_ℤ}
-use Rattle.numbers.proofs.Integers.{up, dn, add-law, mul-law, up_neg, dn-neg, eqℤ, of_eq, leℤ, of_le}
+use lib.IntN.{ℤ, pos, ◌+ℤ◌, ◌*ℤ◌, neg_ℤ}
+use Rattle.numbers.proofs.Integers.{up, dn, add-law, mul-law, up_neg, dn-neg, eqℤ}
 
 -- x is a - b
 pub data Diff (x : ℤ) : Type 0 where
@@ -48,37 +47,9 @@ mul {x} {y} (diff a b h) (diff c d k) = diff (a * c + b * d) (a * d + b * c) (ti
 
 pub ruleset sums = (both, add, neg, nat, mul)
 
--- ---- equations, from and to the naturals
+-- ---- equations, from those of the naturals
 abbrev pub Same : {x y : ℤ} → Both x y → Type 0
 Same (both p q) = plus p + minus q ≡ plus q + minus p
 
 pub ring : {x y : ℤ} (p : Both x y) → Same p → x ≡ y
 ring {x} {y} (both (diff a b h) (diff c d k)) e = eqℤ x y (omega arith)
-
-pub fact : {x y : ℤ} (p : Both x y) → x ≡ y → Same p
-fact {x} {y} (both (diff a b h) (diff c d k)) e = omega (arith, of_eq e)
-
--- ---- the order
-abbrev pub AtMost : {x y : ℤ} → Both x y → Type 0
-AtMost (both p q) = plus p + minus q ≤ plus q + minus p
-
-pub order : {x y : ℤ} (p : Both x y) → AtMost p → x ≤ℤ y
-order {x} {y} (both (diff a b h) (diff c d k)) e = leℤ x y (omega arith)
-
-pub order-fact : {x y : ℤ} (p : Both x y) → x ≤ℤ y → AtMost p
-order-fact {x} {y} (both (diff a b h) (diff c d k)) e = omega (arith, of_le e)
-
--- ---- bounds: what `SFits` asks of a width whose half is H
-mag_of : (x : ℤ) (H : ℕ) → up x < H + dn x → dn x ≤ H + up x → mag x < H
-mag_of (pos n) H h k = omega arith
-mag_of (negsuc n) H h k = omega arith
-
-of-mag : (x : ℤ) (H : ℕ) → mag x < H → (up x < H + dn x) × (dn x ≤ H + up x)
-of-mag (pos n) H h = omega arith
-of-mag (negsuc n) H h = omega arith
-
-pub bound : (x : ℤ) {H : ℕ} (p : Diff x) → plus p < H + minus p → minus p ≤ H + plus p → mag x < H
-bound x {H} (diff a b h) l k = mag_of x H (omega arith) (omega arith)
-
-pub bound-fact : {x : ℤ} {H : ℕ} (p : Diff x) → mag x < H → (plus p < H + minus p) × (minus p ≤ H + plus p)
-bound-fact {x} {H} (diff a b h) l = omega (arith, of-mag x H l)

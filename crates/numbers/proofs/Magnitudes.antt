@@ -1,13 +1,12 @@
 -- How large a sum, a difference and a product can be, and that an integer fits a signed width. Assumes nothing.
-use mathlib.Core.Path.{◌≡◌, refl, sym, ap, ◌∙◌, subst}
-use Prim.Native.Nat.{ℕ, zero, suc, ◌+◌, ◌*◌, ◌-◌, ◌^◌, ◌/◌, ◌≤◌, ◌<◌}
+use mathlib.Core.Path.{◌≡◌, refl}
+use Prim.Native.Nat.{ℕ, zero, suc, ◌+◌, ◌*◌, ◌^◌, ◌≤◌, ◌<◌}
 use native.Mathlib.Omega.{arith}
-use native.Mathlib.Nat.{div-le_self}
 use lib.IntN.{ℤ, pos, negsuc, neg_ℤ, nat_abs, ◌+ℤ◌, ◌-ℤ◌, ◌*ℤ◌}
-use lib.Signed.{mag, quot_z, rem_z}
+use lib.Signed.{mag}
 use mir.Syntax.{Width, w64}
 use mir.Val.{SFits, hbits}
-use Rattle.numbers.proofs.Integers.{up, dn, add-law, sub-lawℤ, mul-law, up_neg, dn-neg}
+use Rattle.numbers.proofs.Integers.{up, dn, add-law, sub-lawℤ}
 
 pub size : (x : ℤ) → nat_abs x ≡ up x + dn x
 size (pos n) = omega arith
@@ -44,9 +43,3 @@ fits-at w x h = record { sfits = omega (arith, mag-size x) }
 
 pub fits64 : (x : ℤ) → nat_abs x < 2 ^ 63 → SFits w64 x
 fits64 x h = fits-at w64 x h
-
-pub size-quot : (x y : ℤ) → nat_abs (quot_z x y) ≤ nat_abs x
-size-quot (pos a) (pos b) = div-le_self a b
-size-quot (pos a) (negsuc b) = omega (arith, size-neg (pos (a / suc b)), div-le_self a (suc b))
-size-quot (negsuc a) (pos b) = omega (arith, size-neg (pos (suc a / b)), div-le_self (suc a) b)
-size-quot (negsuc a) (negsuc b) = div-le_self (suc a) (suc b)

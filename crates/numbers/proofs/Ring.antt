@@ -1,12 +1,12 @@
 -- A normaliser for polynomials over ℤ: `ring e f ρ tt` proves an identity where both sides come to the same sorted sum of monomials.
 -- A polynomial's variables are numbers, and ρ lists their values. Assumes nothing.
-use mathlib.Core.Path.{◌≡◌, refl, sym, ap, ◌∙◌, subst}
-use mathlib.Core.Bool.{Bool, true, false, not, cond, ◌&&◌}
+use mathlib.Core.Path.{◌≡◌, refl, sym, ap, ◌∙◌}
+use mathlib.Core.Bool.{Bool, true, false, cond, ◌&&◌}
 use mathlib.Core.List.{List, [], ◌∷◌}
-use Prim.Native.Nat.{ℕ, zero, suc}
+use Prim.Native.Nat.{ℕ}
 use lib.Dec.{T, leb, ltb, eqb, eqb→eq}
 use lib.ListN.{get_or}
-use lib.IntN.{ℤ, pos, negsuc, neg_ℤ, ◌+ℤ◌, ◌-ℤ◌, ◌*ℤ◌, *ℤ_comm, +ℤ_assoc, +ℤ_comm, +ℤ_idl, +ℤ_idr, zero-*ℤ, *ℤ-zero, +ℤ_invr, +ℤ_invl}
+use lib.IntN.{ℤ, pos, negsuc, neg_ℤ, ◌+ℤ◌, ◌-ℤ◌, ◌*ℤ◌, +ℤ_assoc, +ℤ_idl, +ℤ_idr, zero-*ℤ, *ℤ-zero, +ℤ_invl}
 use Rattle.numbers.proofs.Tests.{and_left, and_right}
 use Rattle.numbers.proofs.Laws.{mul-addℤ, add-mulℤ, mul-assocℤ, mul-left-commℤ, add-left-commℤ, one-mulℤ, mul-oneℤ, neg-one-mulℤ}
 

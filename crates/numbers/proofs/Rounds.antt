@@ -1,18 +1,18 @@
 -- The laws of rounding and of the whole root.
 -- Assumes nothing.
-use mathlib.Core.Path.{◌≡◌, refl, sym, ◌∙◌, ap, subst}
-use mathlib.Core.Bool.{Bool, true, false, not}
-use mathlib.Core.List.{List, [], ◌∷◌}
-use Prim.Native.Nat.{ℕ, zero, suc, ◌+◌, ◌-◌, ◌*◌, ◌%◌, ◌/◌, ◌^◌, ◌≤◌, ◌<◌}
+use mathlib.Core.Path.{◌≡◌, refl}
+use mathlib.Core.Bool.{Bool, true, false}
+use mathlib.Core.List.{[], ◌∷◌}
+use Prim.Native.Nat.{ℕ, zero, suc, ◌+◌, ◌*◌, ◌%◌, ◌/◌, ◌≤◌, ◌<◌}
 use native.Mathlib.Omega.{arith}
-use native.Mathlib.Nat.{div-add-mod', mod-lt, mul-le-mul, mul-le-mul_left, mul-le-mul_right, div-lt_iff_lt-mul}
-use lib.Dec.{T, leb, leb→le, nleb→lt}
+use native.Mathlib.Nat.{div-add-mod', mod-lt, mul-le-mul, mul-le-mul_left, mul-le-mul_right}
+use lib.Dec.{leb, leb→le, nleb→lt}
 use lib.IntN.{ℤ, pos, negsuc, nat_abs, ◌+ℤ◌, ◌-ℤ◌, ◌*ℤ◌}
 use lib.Signed.{◌≤ℤ◌, ◌<ℤ◌}
 use Rattle.numbers.specs.Round.{floor_div, nearest, root_step, root_in, root, root_over}
 use Rattle.numbers.proofs.Integers.{up, dn, add-law, sub-lawℤ, mul-law, leℤ, of_le, ltℤ, of_lt, of_eq}
 use Rattle.numbers.proofs.Laws.{≤ℤ-antisym, pos-cancel-lt, pos-cancel}
-use Rattle.numbers.proofs.Ring.{Poly, X, K, ◌⊕◌, ◌⊖◌, ◌⊗◌, ring, eval}
+use Rattle.numbers.proofs.Ring.{X, K, ◌⊕◌, ◌⊖◌, ◌⊗◌, ring}
 use Rattle.numbers.proofs.Magnitudes.{size}
 
 -- r is the whole root of n

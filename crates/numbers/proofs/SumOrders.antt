@@ -1,15 +1,15 @@
 -- The order of sums.
 -- Assumes nothing.
-use mathlib.Core.Path.{◌≡◌, refl, sym, ◌∙◌, ap}
-use Prim.Native.Nat.{ℕ, zero, suc, ◌+◌, ◌*◌, ◌≤◌, ◌<◌}
+use mathlib.Core.Path.{◌≡◌, refl, sym}
+use Prim.Native.Nat.{ℕ, zero, suc, ◌<◌}
 use native.Mathlib.Omega.{arith}
 use native.Mathlib.Decide.{dec_lt}
 use mathlib.Core.Bool.{Bool, true, false}
-use lib.IntN.{ℤ, pos, negsuc, ◌+ℤ◌, ◌*ℤ◌, *ℤ-zero}
-use lib.Signed.{◌≤ℤ◌, ◌<ℤ◌, ≤ℤ_refl}
+use lib.IntN.{ℤ, pos, ◌+ℤ◌, ◌*ℤ◌, *ℤ-zero}
+use lib.Signed.{◌≤ℤ◌, ≤ℤ_refl}
 use Rattle.numbers.specs.Sum.{sum_to, pick}
 use Rattle.numbers.proofs.Integers.{add-law, leℤ, of_le}
-use Rattle.numbers.proofs.Laws.{≤ℤ-trans, add-nonneg, mul-addℤ}
+use Rattle.numbers.proofs.Laws.{add-nonneg, mul-addℤ}
 
 pub add-le : {a b c d : ℤ} → a ≤ℤ b → c ≤ℤ d → (a +ℤ c) ≤ℤ (b +ℤ d)
 add-le {a} {b} {c} {d} h k = leℤ (a +ℤ c) (b +ℤ d) (omega (arith, of_le h, of_le k, add-law a c, add-law b d))

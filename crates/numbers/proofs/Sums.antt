@@ -4,14 +4,13 @@ use mathlib.Core.Path.{◌≡◌, refl, sym, ◌∙◌, ap, ap₂}
 use Prim.Native.Nat.{ℕ, zero, suc, ◌+◌, ◌-◌, ◌*◌, ◌≤◌, ◌<◌, min}
 use native.Mathlib.Omega.{arith}
 use native.Mathlib.Decide.{dec_lt}
-use mathlib.Core.Bool.{Bool, true, false, cond, not, ◌&&◌}
-use lib.Dec.{T, ltb, leb, lt→ltb, le→leb, leb→le, not_T, ltb→lt, nltb→le}
-use lib.IntN.{ℤ, pos, negsuc, ◌+ℤ◌, ◌-ℤ◌, ◌*ℤ◌, neg_ℤ, nat_abs, +ℤ_idr, +ℤ_idl, +ℤ_assoc, +ℤ_invr}
+use mathlib.Core.Bool.{Bool, true, false, not}
+use lib.Dec.{T, ltb, leb, lt→ltb, le→leb, leb→le, ltb→lt, nltb→le}
+use lib.IntN.{ℤ, pos, ◌+ℤ◌, ◌-ℤ◌, nat_abs, +ℤ_idr, +ℤ_assoc, +ℤ_invr}
 use native.Mathlib.Nat.{add-zero, add-suc, min-zero}
 use Rattle.numbers.specs.Sum.{sum_to, pick, dist}
 use Rattle.numbers.proofs.Linear.{any, sums, ring}
 use Rattle.numbers.proofs.Magnitudes.{size-add}
-use Rattle.numbers.proofs.Tests.{and_left, and_right, and_both}
 
 pub sum-suc : (n : ℕ) (f : ℕ → ℤ) → sum_to (suc n) f ≡ sum_to n f +ℤ f n
 unfolding sum_to

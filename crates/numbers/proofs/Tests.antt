@@ -1,6 +1,6 @@
 -- Tests: what a Bool that is true, or false, says of its parts.
 -- Assumes nothing.
-use mathlib.Core.Path.{◌≡◌, refl, sym}
+use mathlib.Core.Path.{◌≡◌, refl}
 use mathlib.Core.Bool.{Bool, true, false, not, ◌&&◌, ◌||◌, true≢false}
 use lib.Dec.{T}
 
@@ -39,26 +39,9 @@ pub off : (b : Bool) → (T b → ⊥) → b ≡ false
 off true h = absurd (h tt)
 off false h = refl
 
-pub not-true : (b : Bool) → T b → not b ≡ true → ⊥
-not-true true t e = true≢false (sym e)
-not-true false t e = t
-
 -- a test that says the same is the test
 pub same_test : (a b : Bool) → (T a → T b) → (T b → T a) → a ≡ b
 same_test true true h k = refl
 same_test true false h k = absurd (h tt)
 same_test false true h k = absurd (k tt)
 same_test false false h k = refl
-
--- ---- a test that code decides in two steps: r and then s
-pub first-fails : (r a b : Bool) → r ≡ a → not r ≡ true → false ≡ (a && b)
-first-fails r true b e t = absurd (not-true r (rw e tt) t)
-first-fails r false b e t = refl
-
-pub first_holds : (r a s b : Bool) → r ≡ a → not r ≡ false → s ≡ b → s ≡ (a && b)
-first_holds r true s b e t h = h
-first_holds r false s b e t h = absurd (true≢false (rw e at t))
-
--- what a test r that code made says of a
-pub holds_of : (r a : Bool) → r ≡ a → not r ≡ false → T a
-holds_of r a e t = rw (← e) (of-not r t)

@@ -1,10 +1,10 @@
 -- Signed numbers of 16, 32 and 64 bits: what fits one fits a wider one, and a product of two levels fits 32 bits.
 -- Assumes nothing.
-use Prim.Native.Nat.{ℕ, ◌^◌, ◌≤◌, ◌<◌}
+use Prim.Native.Nat.{◌≤◌}
 use native.Mathlib.Omega.{arith}
 use native.Mathlib.Nat.{mul-le-mul}
 use lib.IntN.{ℤ, nat_abs, ◌*ℤ◌}
-use lib.Signed.{mag, nat_abs-le}
+use lib.Signed.{nat_abs-le}
 use mir.Syntax.{w16, w32, w64}
 use mir.Val.{SFits}
 use Rattle.numbers.proofs.Magnitudes.{fits-at, size-mul}

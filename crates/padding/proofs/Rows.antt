@@ -1,36 +1,38 @@
 -- A row of a plane, and that row among zeros.
 -- Assumes nothing.
-use mathlib.Core.Path.{◌≡◌, refl, sym, ◌∙◌, ap}
+use mathlib.Core.Path.{◌≡◌, sym, ◌∙◌, ap}
 use Prim.Native.Nat.{ℕ, ◌+◌, ◌-◌, ◌≤◌, ◌<◌}
 use native.Mathlib.Omega.{arith}
 use native.Mathlib.Decide.{dec_lt}
-use mathlib.Core.Bool.{Bool, true, false}
 use mathlib.Core.List.{List, map, map-id}
-use lib.Dec.{leb, ltb, leb→le, ltb→lt, le→leb}
+use lib.Dec.{leb, leb→le, le→leb}
 use lib.ListN.{length, take, drop}
 use lib.IntN.{ℤ, pos}
 use borrow.Rule.Slice.PartMut.{put_mid}
+use Rattle.std.specs.Prelude.{Option, None, Some}
 use Rattle.numbers.specs.Sum.{pick}
 use Rattle.numbers.specs.Grid.{tabulate}
-use Rattle.numbers.proofs.Tests.{and_left, and_right}
 use Rattle.numbers.proofs.Grids.{length-tabulate}
 use Rattle.numbers.proofs.Sums.{pick_yes, pick_no}
 use Rattle.numbers.proofs.Writes.{at, is-tabulate, tabulate-at, part-before, part-within, part-after, part_length, slice-length}
 use Rattle.overlaps.specs.declared.Overlap.{Overlap}
 use Rattle.overlaps.specs.Overlaps.{Overlapping}
-use Rattle.picture.specs.declared.Size.{Size}
+use Rattle.picture.specs.declared.checked.CheckedSource.{CheckedSource}
 use Rattle.picture.specs.Picture.{Source, plane_value, plane_at}
-use Rattle.picture.proofs.Refusals.{in-limits}
+use Rattle.picture.specs.Checked.{checked_source}
+use Rattle.picture.proofs.Planes.{plane-past, plane-beside}
+use Rattle.picture.proofs.Found.{limits}
 use Rattle.lines.specs.declared.Line.{Line}
 use Rattle.lines.specs.Lines.{line_of, line_value, Lies}
 use Rattle.lines.proofs.LineValues.{line-value, column-outside}
-use Rattle.lines.proofs.Exchanges.{line_on, line-off, lent-f, lent-g, lent-value}
+use Rattle.lines.proofs.Exchanges.{line-off, lent-f, lent-g, lent-value}
 use Rattle.slopes.specs.Slopes.{padded}
-use Rattle.slopes.specs.Leans.{Blank, Holds, LoadAsked}
+use Rattle.slopes.proofs.Moves.{pick-zero}
+use Rattle.slopes.specs.Leans.{Blank, Holds}
 
 -- ---- row m of a plane, by its line
 module _ (x : Source) (o along : Overlap) (v : Overlapping x.size.rows x.shift.down o) (h : Overlapping x.size.columns x.shift.right along)
-    (m : ℕ) (l : Line) (e : l ≡ line_of x.size o along m) where
+    (m : ℕ) (l : Option Line) (e : l ≡ line_of x.size o along m) (n : ℕ) (zeros : List ℤ) (room : n ≡ x.size.columns) (z : zeros ≡ tabulate n (λ k. pos 0)) where
   abbrev columns : ℕ
   columns = x.size.columns
 
@@ -40,48 +42,45 @@ module _ (x : Source) (o along : Overlap) (v : Overlapping x.size.rows x.shift.d
   abbrev end : ℕ
   end = along.end
 
-  -- the columns before and behind those that count
-  before : (j : ℕ) → j < columns → j < first → plane_at x m j ≡ pos 0
-  before j j< b = column-outside x o along v h m j j< (λ t. omega (arith, leb→le first j (and_left (leb first j) (ltb j end) t)))
+  length_zeros : length zeros ≡ columns
+  length_zeros = ap length z ∙ length-tabulate n (λ k. pos 0) ∙ room
 
-  behind : (j : ℕ) → j < columns → end ≤ j → plane_at x m j ≡ pos 0
-  behind j j< b = column-outside x o along v h m j j< (λ t. omega (arith, ltb→lt j end (and_right (leb first j) (ltb j end) t)))
+  -- a column that does not count
+  outside : (j : ℕ) → j < columns → (first ≤ j → j < end → ⊥) → at zeros j ≡ plane_at x m j
+  outside j j< never = tabulate-at zeros n (λ k. pos 0) z j (omega (arith, length_zeros)) ∙ sym (column-outside x o along v h m j j< never)
 
-  -- those that count
+  -- one that counts
   inner : (j : ℕ) → first ≤ j → j < end → line_value x.plane x.f x.g l (j - first) ≡ plane_at x m j
   inner j a b =
       let here : first + (j - first) ≡ j = omega arith in
-      ap (λ (q : Line). line_value x.plane x.f x.g q (j - first)) e ∙ line-value x o along v h m (j - first) (omega arith) ∙ ap (plane_at x m) here
+      ap (λ (q : Option Line). line_value x.plane x.f x.g q (j - first)) e ∙ line-value x o along v h m (j - first) (omega arith) ∙ ap (plane_at x m) here
 
-  pub row-none : (n : ℕ) (zeros : List ℤ) → l.counts ≡ false → n ≡ columns → zeros ≡ tabulate n (λ k. pos 0) → zeros ≡ tabulate columns (plane_at x m)
-  row-none n zeros off room z = is-tabulate zeros columns (plane_at x m) (ap length z ∙ length-tabulate n (λ k. pos 0) ∙ room) each
+  pub row-none : l ≡ None → zeros ≡ tabulate columns (plane_at x m)
+  row-none off = is-tabulate zeros columns (plane_at x m) length_zeros (λ j j<. each j j< (dec_lt j first) (dec_lt j end))
     where
-      none : (j : ℕ) → j < columns → Dec (j < first) → Dec (j < end) → plane_at x m j ≡ pos 0
-      none j j< (yes a) d = before j j< a
-      none j j< (no a) (no b) = behind j j< (omega arith)
-      none j j< (no a) (yes b) = sym (inner j (omega arith) b) ∙ line-off x.plane x.f x.g l (j - first) off
+      each : (j : ℕ) → j < columns → Dec (j < first) → Dec (j < end) → at zeros j ≡ plane_at x m j
+      each j j< (yes a) d = outside j j< (λ u w. omega arith)
+      each j j< (no a) (no b) = outside j j< (λ u w. omega arith)
+      each j j< (no a) (yes b) =
+          tabulate-at zeros n (λ k. pos 0) z j (omega (arith, length_zeros))
+          ∙ sym (line-off x.plane x.f x.g (j - first)) ∙ ap (λ (q : Option Line). line_value x.plane x.f x.g q (j - first)) (sym off) ∙ inner j (omega arith) b
 
-      each : (j : ℕ) → j < columns → at zeros j ≡ plane_at x m j
-      each j j< = tabulate-at zeros n (λ k. pos 0) z j (omega (arith, ap length z, length-tabulate n (λ (k : ℕ). pos 0))) ∙ sym (none j j< (dec_lt j first) (dec_lt j end))
-
-  module _ (i : Lies x.f x.g (end - first) l) (on : l.counts ≡ true) (n q : ℕ) (zeros part : List ℤ) (room : n ≡ columns) (z : zeros ≡ tabulate n (λ k. pos 0))
-      (w : part ≡ tabulate q (λ k. plane_value x.plane (at (lent-f x.f x.g (end - first) l i) k) (at (lent-g x.f x.g (end - first) l i) k))) (size : length part ≡ end - first) where
-    length_zeros : length zeros ≡ columns
-    length_zeros = ap length z ∙ length-tabulate n (λ k. pos 0) ∙ room
-
+  module _ (on : Line) (is : l ≡ Some on) (i : Lies x.f x.g (end - first) on) (q : ℕ) (part : List ℤ)
+      (w : part ≡ tabulate q (λ k. plane_value x.plane (at (lent-f x.f x.g (end - first) on i) k) (at (lent-g x.f x.g (end - first) on i) k))) (lent : length part ≡ length (take (end - first) (drop first zeros))) where
     fits : end ≤ length zeros
     fits = omega (arith, h.within, length_zeros)
 
+    size : length part ≡ end - first
+    size = lent ∙ slice-length first end zeros h.ordered fits
+
     column-at : (j : ℕ) → j < columns → Dec (j < first) → Dec (j < end) → at (put_mid first (end - first) zeros part) j ≡ plane_at x m j
-    column-at j j< (yes a) d =
-        part-before first end zeros part h.ordered fits size j a ∙ tabulate-at zeros n (λ k. pos 0) z j (omega (arith, length_zeros)) ∙ sym (before j j< a)
-    column-at j j< (no a) (no b) =
-        part-after first end zeros part h.ordered fits size j (omega arith) ∙ tabulate-at zeros n (λ k. pos 0) z j (omega (arith, length_zeros)) ∙ sym (behind j j< (omega arith))
+    column-at j j< (yes a) d = part-before first end zeros part h.ordered fits size j a ∙ outside j j< (λ u w. omega arith)
+    column-at j j< (no a) (no b) = part-after first end zeros part h.ordered fits size j (omega arith) ∙ outside j j< (λ u w. omega arith)
     column-at j j< (no a) (yes b) =
         part-within first end zeros part h.ordered fits size j (omega arith) b
-        ∙ tabulate-at part q _ w (j - first) (omega arith)
-        ∙ lent-value x.f x.g (end - first) l i x.plane (j - first) (omega arith)
-        ∙ sym (line_on x.plane x.f x.g l (j - first) on)
+        ∙ tabulate-at part q _ w (j - first) (omega (arith, size))
+        ∙ lent-value x.f x.g (end - first) on i x.plane (j - first) (omega arith)
+        ∙ ap (λ (q : Option Line). line_value x.plane x.f x.g q (j - first)) (sym is)
         ∙ inner j (omega arith) b
 
     pub row-some : put_mid first (end - first) zeros part ≡ tabulate columns (plane_at x m)
@@ -89,60 +88,53 @@ module _ (x : Source) (o along : Overlap) (v : Overlapping x.size.rows x.shift.d
         is-tabulate (put_mid first (end - first) zeros part) columns (plane_at x m)
         (part_length first end zeros part h.ordered fits size ∙ length_zeros) (λ j j<. column-at j j< (dec_lt j first) (dec_lt j end))
 
-pick-none : (b : Bool) → pick b (pos 0) ≡ pos 0
-unfolding pick
-pick-none true = refl
-pick-none false = refl
-
 -- ---- a row that was put where it belongs among zeros
-module _ (P : ℕ → ℕ → ℤ) (columns y : ℕ) (buf part : List ℤ) (blank : Blank buf columns) (few : columns ≤ 1024) (past : (m n : ℕ) → columns ≤ n → P m n ≡ pos 0)
-    (size : length part ≡ 256 + columns - 256) where
+module _ (x : CheckedSource) (y : ℕ) (buf part : List ℤ) (given : Blank (map (λ (v : ℤ). v) buf) x.size.columns)
+    (lent : length part ≡ length (take (256 + x.size.columns - 256) (drop 256 buf))) where
+  abbrev width : ℕ
+  width = x.size.columns
+
+  abbrev P : ℕ → ℕ → ℤ
+  P = plane_at (checked_source x)
+
   abbrev put : List ℤ
-  put = put_mid 256 (256 + columns - 256) buf part
+  put = put_mid 256 (256 + width - 256) buf part
 
-  place_at : (F : ℕ → ℤ) (n : ℕ) → part ≡ tabulate n F → ((k : ℕ) → k < columns → F k ≡ pick (leb 128 y) (P (y - 128) k)) → (x : ℕ) → Dec (x < 256) → Dec (x < 256 + columns) → at put x ≡ padded P y x
+  few : width ≤ 1024
+  few = (limits x).few_columns
+
+  -- numbers stand for themselves
+  blank : Blank buf width
+  blank = rw (map-id buf) at given
+
+  length_part : length part ≡ 256 + width - 256
+  length_part = lent ∙ slice-length 256 (256 + width) buf (omega arith) (omega (arith, few, blank.size))
+
+  place_at : (F : ℕ → ℤ) (n : ℕ) → part ≡ tabulate n F → ((k : ℕ) → k < width → F k ≡ pick (leb 128 y) (P (y - 128) k)) → (z : ℕ) → Dec (z < 256) → Dec (z < 256 + width) → at put z ≡ padded P y z
   unfolding padded
-  place_at F n e h x (yes a) d =
-      part-before 256 (256 + columns) buf part (omega arith) (omega (arith, blank.size)) size x a ∙ blank.low x a
-      ∙ sym (ap (pick (leb 128 y)) (pick_no (leb 256 x) (P (y - 128) (x - 256)) (λ t. omega (arith, leb→le 256 x t))) ∙ pick-none (leb 128 y))
-  place_at F n e h x (no a) (no b) =
-      part-after 256 (256 + columns) buf part (omega arith) (omega (arith, blank.size)) size x (omega arith) ∙ blank.high x (omega arith)
-      ∙ sym (ap (pick (leb 128 y)) (pick_yes (leb 256 x) (P (y - 128) (x - 256)) (le→leb 256 x (omega arith)) ∙ past (y - 128) (x - 256) (omega arith)) ∙ pick-none (leb 128 y))
-  place_at F n e h x (no a) (yes b) =
-      part-within 256 (256 + columns) buf part (omega arith) (omega (arith, blank.size)) size x (omega arith) b
-      ∙ tabulate-at part n F e (x - 256) (omega arith) ∙ h (x - 256) (omega arith)
-      ∙ sym (ap (pick (leb 128 y)) (pick_yes (leb 256 x) (P (y - 128) (x - 256)) (le→leb 256 x (omega arith))))
+  place_at F n e h z (yes a) d =
+      part-before 256 (256 + width) buf part (omega arith) (omega (arith, few, blank.size)) length_part z a ∙ blank.low z a
+      ∙ sym (ap (pick (leb 128 y)) (pick_no (leb 256 z) (P (y - 128) (z - 256)) (λ t. omega (arith, leb→le 256 z t))) ∙ pick-zero (leb 128 y))
+  place_at F n e h z (no a) (no b) =
+      part-after 256 (256 + width) buf part (omega arith) (omega (arith, few, blank.size)) length_part z (omega arith) ∙ blank.high z (omega arith)
+      ∙ sym (ap (pick (leb 128 y)) (pick_yes (leb 256 z) (P (y - 128) (z - 256)) (le→leb 256 z (omega arith)) ∙ plane-beside (checked_source x) (y - 128) (z - 256) (omega arith)) ∙ pick-zero (leb 128 y))
+  place_at F n e h z (no a) (yes b) =
+      part-within 256 (256 + width) buf part (omega arith) (omega (arith, few, blank.size)) length_part z (omega arith) b
+      ∙ tabulate-at part n F e (z - 256) (omega (arith, length_part)) ∙ h (z - 256) (omega arith)
+      ∙ sym (ap (pick (leb 128 y)) (pick_yes (leb 256 z) (P (y - 128) (z - 256)) (le→leb 256 z (omega arith))))
 
-  pub loaded : (F : ℕ → ℤ) (n : ℕ) → part ≡ tabulate n F → ((k : ℕ) → k < columns → F k ≡ pick (leb 128 y) (P (y - 128) k)) → Holds put (padded P y)
-  loaded F n e h = record {
-    size = part_length 256 (256 + columns) buf part (omega arith) (omega (arith, blank.size)) size ∙ blank.size;
-    each = λ x. place_at F n e h x (dec_lt x 256) (dec_lt x (256 + columns));
-  }
+  loaded : (F : ℕ → ℤ) (n : ℕ) → part ≡ tabulate n F → ((k : ℕ) → k < width → F k ≡ pick (leb 128 y) (P (y - 128) k)) → Holds (map (λ (v : ℤ). v) put) (padded P y)
+  loaded F n e h = rw (map-id put) (record {
+    size = part_length 256 (256 + width) buf part (omega arith) (omega (arith, few, blank.size)) length_part ∙ blank.size;
+    each = λ z. place_at F n e h z (dec_lt z 256) (dec_lt z (256 + width));
+  })
 
   -- the plane has no such row above its first, nor below its last
-  pub load-above : y < 128 → (n : ℕ) → part ≡ tabulate n (λ k. pos 0) → Holds put (padded P y)
+  pub load-above : y < 128 → (n : ℕ) → part ≡ tabulate n (λ k. pos 0) → Holds (map (λ (v : ℤ). v) put) (padded P y)
   load-above h n e = loaded (λ k. pos 0) n e (λ k k<. sym (pick_no (leb 128 y) (P (y - 128) k) (λ t. omega (arith, leb→le 128 y t))))
 
-  pub load_below : ((k : ℕ) → P (y - 128) k ≡ pos 0) → 128 ≤ y → (n : ℕ) → part ≡ tabulate n (λ k. pos 0) → Holds put (padded P y)
-  load_below none h n e = loaded (λ k. pos 0) n e (λ k k<. sym (pick_yes (leb 128 y) (P (y - 128) k) (le→leb 128 y h) ∙ none k))
+  pub load_below : 128 ≤ y → x.size.rows ≤ y - 128 → (n : ℕ) → part ≡ tabulate n (λ k. pos 0) → Holds (map (λ (v : ℤ). v) put) (padded P y)
+  load_below h below n e = loaded (λ k. pos 0) n e (λ k k<. sym (pick_yes (leb 128 y) (P (y - 128) k) (le→leb 128 y h) ∙ plane-past (checked_source x) (y - 128) k below))
 
-  pub load_row : 128 ≤ y → (n : ℕ) → part ≡ tabulate n (P (y - 128)) → Holds put (padded P y)
+  pub load_row : 128 ≤ y → (n : ℕ) → part ≡ tabulate n (P (y - 128)) → Holds (map (λ (v : ℤ). v) put) (padded P y)
   load_row h n e = loaded (P (y - 128)) n e (λ k k<. sym (pick_yes (leb 128 y) (P (y - 128) k) (le→leb 128 y h)))
-
--- ---- a row of numbers that stand for themselves
-pub holds-same : {l : List ℤ} {F : ℕ → ℤ} → Holds l F → Holds (map (λ (x : ℤ). x) l) F
-holds-same {l} h = rw (map-id l) h
-
--- the row has room for the picture's columns
-module _ (z : Size) (f g buf : List ℤ) (asked : LoadAsked z f g (map (λ (x : ℤ). x) buf)) where
-  pub blank-same : Blank buf z.columns
-  blank-same = rw (map-id buf) at asked.blank
-
-  pub few-columns : z.columns ≤ 1024
-  few-columns = (in-limits z asked.size).few_columns
-
-  room-in-row : 256 + z.columns ≤ length buf
-  room-in-row = omega (arith, few-columns, blank-same.size)
-
-  pub lent-row : length (take (256 + z.columns - 256) (drop 256 buf)) ≡ 256 + z.columns - 256
-  lent-row = slice-length 256 (256 + z.columns) buf (omega arith) room-in-row

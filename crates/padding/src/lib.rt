@@ -5,11 +5,12 @@
 ghost use Rattle.std.specs.Prelude.{◌≡◌, ℕ, ◌*◌, ◌^◌, ◌<◌, ◌≤◌, ℤ, pos, nat_abs, map};
 ghost use Rattle.std.specs.Mem.{type_size};
 ghost use Rattle.picture.specs.Picture.{Source, Levels, plane_at};
-ghost use Rattle.picture.specs.Given.{source_of};
+ghost use Rattle.picture.specs.Plane.{plane_number};
+ghost use Rattle.picture.specs.Checked.{checked_source};
 ghost use Rattle.slopes.specs.Slopes.{padded};
-ghost use Rattle.slopes.specs.Leans.{Holds, LoadAsked};
+ghost use Rattle.slopes.specs.Leans.{Blank, Holds};
 
-use picture::Source;
+use picture::CheckedSource;
 
 pub mod narrow; // narrow.rt: planes 0, 1 and 2, whose values are ones and levels
 pub mod wide; // wide.rt: planes 3, 4 and 5, whose values are products
@@ -30,9 +31,9 @@ pub trait PlaneValue: Copy {
         ensures { value result ≡ pos 0 };
 
     // Row y of the padded plane stands in buf: row y - 128 of the plane, and zeros where there is none.
-    fn load(source: &Source<'_>, y: usize, buf: &mut [Self; 1536])
-        requires { holds source.now.plane × LoadAsked source.now.size source.now.f.now source.now.g.now (map value buf.old) }
-        ensures { Holds (map value buf.new) (padded (plane_at (source_of source.now)) y) };
+    fn load(source: &CheckedSource<'_>, y: usize, buf: &mut [Self; 1536])
+        requires { holds (plane_number source.now.plane) × Blank (map value buf.old) source.now.size.columns }
+        ensures { Holds (map value buf.new) (padded (plane_at (checked_source source.now)) y) };
 
     // the values of such a plane are that large
     ghost small: { (x : Source) → holds x.plane → Levels x.f → Levels x.g → (m n : ℕ) → nat_abs (plane_at x m n) ≤ value_max };

@@ -3,21 +3,21 @@
 ghost use Rattle.std.specs.Prelude.{◌≡◌, ◌≤◌, ◌^◌, pos, length, get_or};
 ghost use Rattle.numbers.specs.Grid.{tabulate};
 ghost use Rattle.picture.specs.Picture.{plane_at, plane_value};
-ghost use Rattle.picture.specs.Given.{source_of};
+ghost use Rattle.picture.specs.Plane.{plane_number};
+ghost use Rattle.picture.specs.Checked.{checked_source};
 ghost use Rattle.std.proofs.Common.{arith};
 ghost use Rattle.picture.proofs.Planes.{plane-level};
-ghost use Rattle.slopes.specs.Leans.{RowAsked};
 
 use crate::PlaneValue;
-use picture::Source;
+use picture::{CheckedSource, Plane};
 
-// Every number of out is the value.
+// Every number of out is the value. One function for this and `plane_values::fill` is no plainer: of a type parameter the library's fill asks that its clone
+// cannot fail and is the value.
+#[tactic(auto, using(plane_values::proofs::Filled::filled))]
 fn fill(out: &mut [i16], value: i16)
     ensures { out.new ≡ tabulate (length out.old) (λ k. value) }
 {
-    for k in 0..out.len() {
-        out[k] = value;
-    }
+    out.fill(value);
 }
 
 // The levels are copied.
@@ -25,51 +25,38 @@ fn copy(levels: &[i16], out: &mut [i16])
     requires { length levels.now ≡ length out.old }
     ensures { out.new ≡ tabulate (length out.old) (λ k. get_or levels.now k (pos 0)) }
 {
-    for k in 0..out.len() {
-        out[k] = levels[k];
-    }
+    out.copy_from_slice(levels);
 }
 
 // The plane's values where all cells count: a has the levels of f, and b those of g.
-fn values(plane: u32, a: &[i16], b: &[i16], out: &mut [i16])
-    requires { (plane ≤ 2) × (length a.now ≡ length out.old) × (length b.now ≡ length out.old) }
-    ensures { out.new ≡ tabulate (length out.old) (λ k. plane_value plane (get_or a.now k (pos 0)) (get_or b.now k (pos 0))) }
+#[tactic(auto, unfolding(picture::specs::Picture::plane_value))]
+fn values(plane: Plane, a: &[i16], b: &[i16], out: &mut [i16])
+    requires { (plane_number plane ≤ 2) × (length a.now ≡ length out.old) × (length b.now ≡ length out.old) }
+    ensures { out.new ≡ tabulate (length out.old) (λ k. plane_value (plane_number plane) (get_or a.now k (pos 0)) (get_or b.now k (pos 0))) }
 {
-    if plane == 0 {
-        fill(out, 1);
-        return;
+    match plane {
+        Plane::One => fill(out, 1),
+        Plane::F => copy(a, out),
+        Plane::G => copy(b, out),
+        Plane::FSquared | Plane::GSquared | Plane::Product => unreachable!(),
     }
-    if plane == 1 {
-        copy(a, out);
-        return;
-    }
-    copy(b, out);
 }
 
 // A row of the plane, zeros where cells do not count.
-fn row(source: &Source<'_>, row: usize, out: &mut [i16])
-    requires { (source.now.plane ≤ 2) × RowAsked source.now.size source.now.f.now source.now.g.now out.old }
-    ensures { out.new ≡ tabulate source.now.size.columns (plane_at (source_of source.now) row) }
+fn row(source: &CheckedSource<'_>, row: usize, out: &mut [i16])
+    requires { (plane_number source.now.plane ≤ 2) × (length out.old ≡ source.now.size.columns) }
+    ensures { out.new ≡ tabulate source.now.size.columns (plane_at (checked_source source.now) row) }
 {
-    let rows = source.size.rows;
-    let columns = source.size.columns;
-    let right = source.shift.right;
-    let counting = overlaps::overlap_of(rows, source.shift.down);
-    let along = overlaps::overlap_of(columns, right);
-    let line = lines::line_of(source.size, counting, along, row);
+    let counting = overlaps::overlap_of(source.size.rows, source.shift.down);
+    let along = overlaps::overlap_of(source.size.columns, source.shift.right);
     fill(out, 0);
-    if line.counts {
-        let first = along.first;
-        let end = along.end;
-        let from_f = line.f;
-        let from_g = line.g;
-        let upto_f = from_f + (end - first);
-        let upto_g = from_g + (end - first);
+    if let Some(line) = lines::line_of(source, counting, along, row) {
+        let n = along.end - along.first;
         values(
             source.plane,
-            &source.f[from_f..upto_f],
-            &source.g[from_g..upto_g],
-            &mut out[first..end],
+            &source.f[line.f..line.f + n],
+            &source.g[line.g..line.g + n],
+            &mut out[along.first..along.end],
         );
     }
 }
@@ -89,7 +76,8 @@ impl PlaneValue for i16 {
         0
     }
 
-    fn load(source: &Source<'_>, y: usize, buf: &mut [i16; 1536]) {
+    #[tactic(auto, unfolding(picture::specs::Size::size_legal))]
+    fn load(source: &CheckedSource<'_>, y: usize, buf: &mut [i16; 1536]) {
         let left = 256;
         let right = left + source.size.columns;
         if y < 128 {

@@ -5,7 +5,7 @@ ghost use Rattle.std.proofs.Common.{arith};
 ghost use Rattle.picture.proofs.Planes.{plane-bound};
 
 use crate::PlaneValue;
-use picture::Source;
+use picture::CheckedSource;
 
 impl PlaneValue for i64 {
     ghost value = { λ x. x };
@@ -22,7 +22,8 @@ impl PlaneValue for i64 {
         0
     }
 
-    fn load(source: &Source<'_>, y: usize, buf: &mut [i64; 1536]) {
+    #[tactic(auto, unfolding(picture::specs::Size::size_legal))]
+    fn load(source: &CheckedSource<'_>, y: usize, buf: &mut [i64; 1536]) {
         let left = 256;
         let right = left + source.size.columns;
         if y < 128 {

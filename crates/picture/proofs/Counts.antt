@@ -1,9 +1,8 @@
 -- How many cells a window has: the paper's three formulas, and "No window exceeds 65,025 cells."
 -- Assumes nothing.
-use mathlib.Core.Path.{◌≡◌, refl, sym, ◌∙◌, ap}
-use Prim.Native.Nat.{ℕ, zero, suc, ◌+◌, ◌-◌, ◌*◌, ◌≤◌, ◌<◌}
+use mathlib.Core.Path.{◌≡◌}
+use Prim.Native.Nat.{ℕ, zero, suc, ◌+◌, ◌*◌, ◌≤◌}
 use native.Mathlib.Omega.{arith}
-use native.Mathlib.Nat.{mul-le-mul}
 use lib.Dec.{T}
 use Rattle.picture.specs.declared.Window.{Window}
 use Rattle.picture.specs.Window.{Shape, rectangle, slanted, diamond, hexagon, window_legal, shape_of, height, reach, cells_beyond, cell_count}

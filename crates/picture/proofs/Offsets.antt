@@ -1,16 +1,15 @@
 -- The direct sum is the sum over the window's offsets.
 -- Assumes nothing.
 use mathlib.Core.Path.{◌≡◌, refl, sym, ◌∙◌, ap, ap₂}
-use Prim.Native.Nat.{ℕ, zero, suc, ◌+◌, ◌-◌, ◌*◌, ◌≤◌, ◌<◌, min}
+use Prim.Native.Nat.{ℕ, zero, suc, ◌+◌, ◌-◌, ◌≤◌, min}
 use native.Mathlib.Omega.{arith}
-use native.Mathlib.Decide.{dec_lt}
 use mathlib.Core.Bool.{Bool, true, false, cond}
-use lib.Dec.{T, leb, ltb, lt→ltb, ltb→lt, nltb→le, le→leb, leb→le}
+use lib.Dec.{leb, ltb, ltb→lt, nltb→le, le→leb, leb→le}
 use lib.IntN.{ℤ, pos, negsuc, nat_abs, sub_ℕ, ◌+ℤ◌, ◌-ℤ◌}
 use Rattle.numbers.specs.Sum.{sum_to, pick, dist}
 use Rattle.numbers.proofs.Integers.{up, dn, sub-law}
 use Rattle.numbers.proofs.Linear.{any, sums, ring}
-use Rattle.numbers.proofs.Sums.{sum_near, sum_more, sum_less, sum-cong, pick_yes, pick_no, pick-in, pick_out}
+use Rattle.numbers.proofs.Sums.{sum_near, sum_more, sum_less, pick_yes, pick_no}
 use Rattle.picture.specs.declared.Size.{Size}
 use Rattle.picture.specs.Size.{row_gap, column_gap}
 use Rattle.picture.specs.Window.{Shape, height, reach, shape_of}

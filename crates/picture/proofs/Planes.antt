@@ -1,21 +1,18 @@
 -- How large a plane's values are, and where they are 0.
 -- Assumes nothing.
-use mathlib.Core.Path.{◌≡◌, refl, sym, ◌∙◌, ap}
-use Prim.Native.Nat.{ℕ, zero, suc, ◌+◌, ◌-◌, ◌*◌, ◌^◌, ◌≤◌, ◌<◌}
+use mathlib.Core.Path.{◌≡◌}
+use Prim.Native.Nat.{ℕ, zero, suc, ◌+◌, ◌*◌, ◌^◌, ◌≤◌}
 use native.Mathlib.Omega.{arith}
 use native.Mathlib.Nat.{mul-le-mul}
 use mathlib.Core.Bool.{◌&&◌}
-use mathlib.Core.List.{List}
 use lib.Dec.{ltb, ltb→lt}
-use lib.ListN.{get_or}
-use lib.IntN.{ℤ, pos, negsuc, nat_abs, ◌+ℤ◌, ◌*ℤ◌}
-use Rattle.numbers.specs.Sum.{pick}
+use lib.IntN.{ℤ, pos, nat_abs, ◌+ℤ◌, ◌*ℤ◌}
 use Rattle.numbers.proofs.Sums.{pick-bound, pick_no}
 use Rattle.numbers.proofs.Tests.{and_left, and_right}
 use Rattle.numbers.proofs.Magnitudes.{size-mul}
-use lib.Signed.{mag, nat_abs-le}
+use lib.Signed.{nat_abs-le}
 use Rattle.picture.specs.Size.{in_range, inside, row_at, column_at}
-use Rattle.picture.specs.Picture.{Source, Levels, counts, plane_value, plane_at, level_of, other_of, level_at}
+use Rattle.picture.specs.Picture.{Source, Levels, counts, plane_value, plane_at, level_of, other_of}
 
 pub product-bound : (x y : ℤ) → nat_abs x ≤ 32768 → nat_abs y ≤ 32768 → nat_abs (x *ℤ y) ≤ 2 ^ 30
 product-bound x y h k = omega (arith, size-mul x y, mul-le-mul h k)

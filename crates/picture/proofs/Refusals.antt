@@ -1,27 +1,26 @@
 -- The laws of refusals, and what accepted inputs have.
 -- Assumes nothing.
-use mathlib.Core.Path.{◌≡◌, refl, sym, ap, ◌∙◌}
+use mathlib.Core.Path.{◌≡◌, refl, sym, ◌∙◌}
 use Prim.Native.Nat.{ℕ, ◌≤◌, ◌<◌}
-use native.Mathlib.Omega.{arith}
-use mathlib.Core.Bool.{Bool, true, false, not, ◌&&◌, true≢false}
+use mathlib.Core.Bool.{Bool, true, false, not, ◌&&◌}
 use mathlib.Core.List.{List, [], ◌∷◌, ◌++◌}
 use mathlib.Core.Option.{Option, none, some}
-use lib.Dec.{T, leb, ltb, eqb, leb→le, ltb→lt, eqb→eq, eqb_refl, lt→ltb, le→leb, nltb→le}
+use lib.Dec.{T, leb, ltb, eqb, leb→le, ltb→lt, eqb→eq, eqb_refl, lt→ltb}
 use lib.ListN.{length}
 use lib.IntN.{ℤ}
 use Rattle.std.proofs.Math.Facts.{leb_no, no_leb}
-use Rattle.numbers.proofs.Tests.{and_left, and_right, and_both, of-not, not-of, same_test}
-use Rattle.picture.specs.Refusal.{Outcome, Check, Filling, ◌when◌, refused, answered, refusal, outcome, filling, numbers_of}
+use Rattle.numbers.proofs.Tests.{off, and_left, and_right, and_both, of-not, not-of, same_test}
+use Rattle.picture.specs.Refusal.{Outcome, Check, ◌when◌, refused, answered, refusal, outcome, filling, numbers_of}
 use Rattle.std.specs.Prelude as code
 use Rattle.std.specs.Prelude.{Result, Ok, Err, IsErrAnd}
 use Rattle.picture.specs.declared.Refusal.{Refusal}
-use Rattle.picture.specs.Answers.{number, refused_by, outcome_of, optional_outcome}
-use Rattle.picture.specs.declared.Window.{Window}
+use Rattle.picture.specs.Answers.{number, refused_by, outcome_of, outcome_by, optional_outcome}
 use Rattle.picture.specs.Window.{window_legal}
 use Rattle.picture.specs.declared.Size.{Size}
 use Rattle.picture.specs.Size.{size_legal, cells}
 use Rattle.picture.specs.Picture.{Inputs, shift_legal}
-use Rattle.picture.specs.Conditions.{input_checks, accepted, check6}
+use Rattle.picture.specs.Shape.{is_shape}
+use Rattle.picture.specs.Conditions.{input_checks, accepted, check5, check6}
 use Rattle.picture.specs.Direct.{direct_sum, direct_checks, direct_call}
 
 -- ---- the first check whose condition holds
@@ -57,11 +56,6 @@ pass_all [] after e = refl
 pass_all ((n when c) ∷ rest) after e = pass n c (rest ++ after) (none-head n c rest e) ∙ pass_all rest after (none_rest n c rest e)
 
 -- ---- the first refusal, as code finds it: check by check, each a `Result`
--- no check is left
-pub all-passed : none ≡ refusal []
-unfolding refusal
-all-passed = refl
-
 stop-all : (n : ℕ) (before after : List Check) → refusal before ≡ some n → refusal (before ++ after) ≡ some n
 unfolding refusal
 stop-all n [] after e = cc
@@ -75,6 +69,9 @@ refuses-here (Err y) e before after h q = rw q (sym (stop-all (number e) before 
 
 pub passes-here : (n : Option ℕ) (before after : List Check) → none ≡ refusal before → n ≡ refusal after → n ≡ refusal (before ++ after)
 passes-here n before after h k = k ∙ sym (pass_all before after (sym h))
+
+pub stops-here : (n : ℕ) (before after : List Check) → some n ≡ refusal before → some n ≡ refusal (before ++ after)
+stops-here n before after h = sym (stop-all n before after (sym h))
 
 -- a single check, by a test s of what it wants
 pub require-sound : (n : ℕ) (b : Bool) → b ≡ true → none ≡ refusal ((n when not b) ∷ [])
@@ -103,6 +100,9 @@ stop-here (Err y) e n c rest t k q = rw (q, k) (sym (stop n c rest t))
 pub line-refuses : (r : Result Unit Refusal) (e : Refusal) (n : ℕ) (s b : Bool) (rest : List Check) → s ≡ b → some (number e) ≡ refusal ((n when not s) ∷ []) → IsErrAnd r (λ y. y ≡ e) → refused_by r ≡ refusal ((n when not b) ∷ rest)
 line-refuses r e n s b rest t h q = rw (sym t) (refuses-here r e ((n when not s) ∷ []) rest h q)
 
+pub line-stops : (m n : ℕ) (s b : Bool) (rest : List Check) → s ≡ b → some m ≡ refusal ((n when not s) ∷ []) → some m ≡ refusal ((n when not b) ∷ rest)
+line-stops m n s b rest t h = rw (sym t) (stops-here m ((n when not s) ∷ []) rest h)
+
 pub line-passes : (m : Option ℕ) (n : ℕ) (s b : Bool) (rest : List Check) → s ≡ b → none ≡ refusal ((n when not s) ∷ []) → m ≡ refusal rest → m ≡ refusal ((n when not b) ∷ rest)
 line-passes m n s b rest t h k = rw (sym t) (passes-here m ((n when not s) ∷ []) rest h k)
 
@@ -119,8 +119,51 @@ plane-refuses r e p rest h q = rw (sym (plane-above p)) (refuses-here r e ((5 wh
 pub plane-passes : (m : Option ℕ) (p : ℕ) (rest : List Check) → none ≡ refusal ((5 when not (leb p 5)) ∷ []) → m ≡ refusal rest → m ≡ refusal ((5 when ltb 5 p) ∷ rest)
 plane-passes m p rest h k = rw (sym (plane-above p)) (passes-here m ((5 when not (leb p 5)) ∷ []) rest h k)
 
-pub plane-last : (m : Option ℕ) (p : ℕ) → m ≡ refusal ((5 when not (leb p 5)) ∷ []) → m ≡ refusal ((5 when ltb 5 p) ∷ [])
-plane-last m p h = rw (sym (plane-above p)) h
+-- the outcome
+pub outcome-none : {A : Type 0} (r : Option ℕ) (a : A) → r ≡ none → outcome r a ≡ answered a
+unfolding outcome
+outcome-none none a e = refl
+outcome-none (some n) a e = cc
+
+pub outcome-some : {A : Type 0} (r : Option ℕ) (a : A) (n : ℕ) → r ≡ some n → outcome r a ≡ refused n
+unfolding outcome
+outcome-some none a n e = cc
+outcome-some (some m) a n e = cc
+
+-- code that answers what it has checked: a refusal, and the result
+pub refuses : {A B : Type 0} (f : A → B) (r : Result A Refusal) (e : Refusal) (checks : List Check) (b : B) → some (number e) ≡ refusal checks → IsErrAnd r (λ y. y ≡ e) → outcome_by f r ≡ outcome (refusal checks) b
+refuses f (Ok a) e checks b h q = absurd q
+refuses f (Err y) e checks b h q = rw q (sym (outcome-some (refusal checks) b (number e) (sym h)))
+
+pub answers : {B : Type 0} (a b : B) (checks : List Check) → none ≡ refusal checks → a ≡ b → answered a ≡ outcome (refusal checks) b
+answers a b checks h e = rw e (sym (outcome-none (refusal checks) b (sym h)))
+
+-- and what such an answer tells
+pub refused-tells : {B : Type 0} (r : Option ℕ) (b : B) (n : ℕ) → refused n ≡ outcome r b → some n ≡ r
+unfolding outcome
+refused-tells none b n e = cc
+refused-tells (some m) b n e = cc
+
+pub answered-tells : {B : Type 0} (r : Option ℕ) (a b : B) → answered a ≡ outcome r b → (none ≡ r) × (a ≡ b)
+unfolding outcome
+answered-tells none a b e = (refl, cc)
+answered-tells (some m) a b e = cc
+
+-- a plane by its number
+pub plane-taken : (n k : ℕ) → n ≡ k → ltb 5 k ≡ false → answered k ≡ outcome (refusal (check5 n ∷ [])) n
+plane-taken n k e h = rw e (sym (outcome-none (refusal (check5 k ∷ [])) k (pass 5 (ltb 5 k) [] h ∙ no-checks)))
+
+pub plane-refused : (n : ℕ) → 5 < n → refused 5 ≡ outcome (refusal (check5 n ∷ [])) n
+plane-refused n h = sym (outcome-some (refusal (check5 n ∷ [])) n 5 (stop 5 (ltb 5 n) [] (lt→ltb 5 n h)))
+
+-- a shape by its number
+pub shape-taken : (n k : ℕ) → n ≡ k → not (is_shape k) ≡ false → answered k ≡ outcome (refusal ((3 when not (is_shape n)) ∷ [])) n
+shape-taken n k e h = rw e (sym (outcome-none (refusal ((3 when not (is_shape k)) ∷ [])) k (pass 3 (not (is_shape k)) [] h ∙ no-checks)))
+
+pub shape-refused : (n : ℕ) → ((1 ≤ n) × (n ≤ 3) → ⊥) → refused 3 ≡ outcome (refusal ((3 when not (is_shape n)) ∷ [])) n
+shape-refused n h =
+    let none : is_shape n ≡ false = off (is_shape n) (λ t. h (leb→le 1 n (and_left (leb 1 n) (leb n 3) t), leb→le n 3 (and_right (leb 1 n) (leb n 3) t))) in
+    sym (outcome-some (refusal ((3 when not (is_shape n)) ∷ [])) n 3 (stop 3 (not (is_shape n)) [] (rw none tt)))
 
 -- a call that is taken passes both groups
 pub none_before : (before after : List Check) → refusal (before ++ after) ≡ none → refusal before ≡ none
@@ -140,16 +183,6 @@ answers-refusal (Err y) e o q h = rw q h
 pub optional-refusal : {A : Type 0} (r : Result (code.Option A) Refusal) (e : Refusal) (o : Outcome (Option A)) → IsErrAnd r (λ y. y ≡ e) → refused (number e) ≡ o → optional_outcome r ≡ o
 optional-refusal (Ok a) e o q h = absurd q
 optional-refusal (Err y) e o q h = rw q h
-
-pub outcome-none : {A : Type 0} (r : Option ℕ) (a : A) → r ≡ none → outcome r a ≡ answered a
-unfolding outcome
-outcome-none none a e = refl
-outcome-none (some n) a e = cc
-
-pub outcome-some : {A : Type 0} (r : Option ℕ) (a : A) (n : ℕ) → r ≡ some n → outcome r a ≡ refused n
-unfolding outcome
-outcome-some none a n e = cc
-outcome-some (some m) a n e = cc
 
 pub filling-none : (r : Option ℕ) (old new : List ℤ) → r ≡ none → filling r old new ≡ record { answer = answered tt; area = new }
 unfolding filling
@@ -183,22 +216,6 @@ in-limits z t =
       some_columns = leb→le 1 z.columns (and_right (a && b) c abc);
       few_columns = leb→le z.columns 1024 (and_right (a && b && c) d t);
     }
-
-pub of-limits : (z : Size) → InLimits z → T (size_legal z)
-unfolding size_legal
-of-limits z l =
-    let a = leb 1 z.rows in
-    let b = leb z.rows 256 in
-    let c = leb 1 z.columns in
-    and_both (a && b && c) (leb z.columns 1024)
-    (and_both (a && b) c
-    (and_both a b (le→leb 1 z.rows l.some_rows) (le→leb z.rows 256 l.few_rows))
-    (le→leb 1 z.columns l.some_columns))
-    (le→leb z.columns 1024 l.few_columns)
-
--- a test that holds exactly within the limits
-pub size_is : (z : Size) (b : Bool) → (T b → InLimits z) → (InLimits z → T b) → b ≡ size_legal z
-size_is z b h k = same_test b (size_legal z) (λ t. of-limits z (h t)) (λ t. k (in-limits z t))
 
 -- ---- single checks that are passed
 pub length-passes : (n m : ℕ) → n ≡ m → not (eqb n m) ≡ false

@@ -1,16 +1,16 @@
 -- The laws of windows: rows and columns, how large, and the sums over them.
 -- Assumes nothing.
-use mathlib.Core.Path.{◌≡◌, refl, sym, ◌∙◌, ap}
-use Prim.Native.Nat.{ℕ, zero, suc, ◌+◌, ◌-◌, ◌*◌, ◌≤◌, ◌<◌, min}
+use mathlib.Core.Path.{◌≡◌, refl}
+use Prim.Native.Nat.{ℕ, zero, suc, ◌+◌, ◌-◌, ◌*◌, ◌≤◌, min}
 use native.Mathlib.Omega.{arith}
-use mathlib.Core.Bool.{Bool, true, false, not, ◌&&◌, true≢false}
-use lib.Dec.{T, ltb, leb, leb→le, le→leb}
-use lib.IntN.{ℤ, pos, negsuc, ◌+ℤ◌, ◌-ℤ◌, nat_abs}
+use mathlib.Core.Bool.{Bool, true, false, ◌&&◌, true≢false}
+use lib.Dec.{T, leb, leb→le, le→leb}
+use lib.IntN.{ℤ, pos, negsuc, ◌+ℤ◌, nat_abs}
 use lib.Signed.{le_z}
 use Rattle.numbers.specs.Sum.{sum_to, pick}
-use Rattle.numbers.proofs.Sums.{sum-cong, sum-zero, sum-swap, sum_bound, pick-bound}
+use Rattle.numbers.proofs.Sums.{sum-zero, sum-swap, sum_bound, pick-bound}
 use Rattle.picture.specs.declared.Window.{Window}
-use Rattle.picture.specs.Window.{window, Shape, Slanted, rectangle, slanted, diamond, hexagon, rectangle_legal, diamond_legal, hexagon_legal, window_legal, shape_of, is_rectangle, height, reach, width, depth, holds, between}
+use Rattle.picture.specs.Window.{window, Shape, rectangle, slanted, diamond, hexagon, rectangle_legal, diamond_legal, hexagon_legal, window_legal, shape_of, is_rectangle, height, reach, width, depth, holds, between}
 use Rattle.picture.specs.declared.Size.{Size}
 use Rattle.picture.specs.Size.{row_gap, column_gap}
 use Rattle.picture.specs.Direct.{window_sum}

@@ -25,6 +25,11 @@ abbrev pub outcome_of : {A : Type 0} → Result A Refusal → Outcome A
 outcome_of (Ok a) = answered a
 outcome_of (Err r) = refused (number r)
 
+-- a refusal's number, or what the result stands for
+abbrev pub outcome_by : {A B : Type 0} → (A → B) → Result A Refusal → Outcome B
+outcome_by f (Ok a) = answered (f a)
+outcome_by f (Err r) = refused (number r)
+
 -- the same of a result that may be none
 abbrev pub option_of : {A : Type 0} → code.Option A → Option A
 option_of code.None = none

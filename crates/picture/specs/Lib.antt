@@ -7,3 +7,6 @@ pub mod Direct
 pub mod Offsets
 pub mod Answers
 pub mod Given
+pub mod Shape
+pub mod Plane
+pub mod Checked

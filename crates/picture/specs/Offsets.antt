@@ -1,10 +1,9 @@
 -- The paper's window once more, by offsets: "holds the cells (i+p, j+q)". `proofs/Offsets` shows that it is the direct sum.
 -- Assumes nothing.
-use Rattle.std.specs.Prelude.{ℕ, zero, suc, Bool, true, false, ◌&&◌, ltb, ℤ, pos, negsuc, neg_ℤ, nat_abs, ◌+ℤ◌}
+use Rattle.std.specs.Prelude.{ℕ, zero, suc, ltb, ℤ, pos, negsuc, nat_abs, ◌+ℤ◌}
 use Rattle.numbers.specs.Sum.{pick}
 use Rattle.picture.specs.declared.Size.{Size}
-use Rattle.picture.specs.Window.{Shape, height, reach, shape_of}
-use Rattle.picture.specs.Picture.{Inputs, plane_at}
+use Rattle.picture.specs.Window.{Shape, height, reach}
 
 -- f (-r) + .. + f r
 unfoldable pub sum_span : ℕ → (ℤ → ℤ) → ℤ

@@ -1,6 +1,6 @@
 -- Windows: "A window sits on a cell (i, j) and holds the cells (i+p, j+q) with ..".
 -- Assumes nothing.
-use Rattle.std.specs.Prelude.{ℕ, zero, suc, ◌+◌, ◌-◌, ◌*◌, min, Bool, true, false, ◌&&◌, leb, ℤ, pos, negsuc, nat_abs, ◌+ℤ◌}
+use Rattle.std.specs.Prelude.{ℕ, zero, suc, ◌+◌, ◌-◌, ◌*◌, min, Bool, true, false, ◌&&◌, leb, ℤ, pos, nat_abs, ◌+ℤ◌}
 use Rattle.std.specs.Int.Signed.{le_z}
 use Rattle.picture.specs.declared.Size.{Size}
 use Rattle.picture.specs.Size.{row_gap, column_gap}

@@ -4,6 +4,14 @@
 ghost use Rattle.std.specs.Prelude.{◌≡◌};
 ghost use Rattle.picture.specs.Answers.{number};
 
+mod checked; // checked.rt: inputs that checks have passed
+mod plane; // plane.rt: the planes, by name
+mod shape; // shape.rt: the shapes of windows, by name
+
+pub use checked::{CheckedInputs, CheckedSource, CheckedWindow};
+pub use plane::Plane;
+pub use shape::Shape;
+
 // "A picture has 1 to 256 rows and 1 to 1,024 columns."
 #[derive(Clone, Copy)]
 pub struct Size {
@@ -18,7 +26,8 @@ pub struct Cell {
     pub column: usize,
 }
 
-// A window as a call gives it: the number of its shape (1 rectangle, 2 diamond, 3 hexagon), and two numbers.
+// A window as a call gives it: the number of its shape (1 rectangle, 2 diamond, 3 hexagon), and two numbers. The shape is a number here,
+// since a call may give any.
 #[derive(Clone, Copy)]
 pub struct Window {
     pub shape: u32,
@@ -33,7 +42,7 @@ pub struct Shift {
     pub right: i32,
 }
 
-// Two pictures of a size, a shift and a plane: what building a table takes.
+// Two pictures of a size, a shift and a plane: what building a table takes. The plane is a number here, since a call may give any.
 #[derive(Clone, Copy)]
 pub struct Source<'a> {
     pub size: Size,

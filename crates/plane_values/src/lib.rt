@@ -5,8 +5,12 @@
 ghost use Rattle.std.specs.Prelude.{◌≡◌, pos, ◌*ℤ◌, length, get_or};
 ghost use Rattle.numbers.specs.Grid.{tabulate};
 ghost use Rattle.picture.specs.Picture.{plane_value};
+ghost use Rattle.picture.specs.Plane.{plane_number};
+
+use picture::Plane;
 
 // Every number of out is the value.
+#[tactic(auto, using(crate::proofs::Filled::filled))]
 pub fn fill(out: &mut [i64], value: i64)
     ensures { out.new ≡ tabulate (length out.old) (λ k. value) }
 {
@@ -14,6 +18,7 @@ pub fn fill(out: &mut [i64], value: i64)
 }
 
 // Levels as numbers of 64 bits.
+#[tactic(auto, using(numbers::proofs::Writes::upto_all))]
 fn widen(levels: &[i16], out: &mut [i64])
     requires { length levels.now ≡ length out.old }
     ensures { out.new ≡ tabulate (length out.old) (λ k. get_or levels.now k (pos 0)) }
@@ -23,40 +28,29 @@ fn widen(levels: &[i16], out: &mut [i64])
     }
 }
 
-// Products of levels: of 31 bits, which 32 hold.
+// Products of levels. A loop of its own: one loop for both kinds, with a closure as in `exchange_loops::add_each`, is no plainer, since it takes a record of
+// what was written, lemmas of that record and an answer for each closure.
 fn multiply(a: &[i16], b: &[i16], out: &mut [i64])
     requires { (length a.now ≡ length out.old) × (length b.now ≡ length out.old) }
     ensures { out.new ≡ tabulate (length out.old) (λ k. get_or a.now k (pos 0) *ℤ get_or b.now k (pos 0)) }
 {
     for k in 0..out.len() {
-        out[k] = (a[k] as i32 * b[k] as i32) as i64;
+        out[k] = machine::product(a[k], b[k]);
     }
 }
 
 // The plane's values where all cells count: a has the levels of f, and b those of g.
-pub fn values(plane: u32, a: &[i16], b: &[i16], out: &mut [i64])
+#[tactic(auto, unfolding(picture::specs::Picture::plane_value))]
+pub fn values(plane: Plane, a: &[i16], b: &[i16], out: &mut [i64])
     requires { (length a.now ≡ length out.old) × (length b.now ≡ length out.old) }
-    ensures { out.new ≡ tabulate (length out.old) (λ k. plane_value plane (get_or a.now k (pos 0)) (get_or b.now k (pos 0))) }
+    ensures { out.new ≡ tabulate (length out.old) (λ k. plane_value (plane_number plane) (get_or a.now k (pos 0)) (get_or b.now k (pos 0))) }
 {
-    if plane == 0 {
-        fill(out, 1);
-        return;
+    match plane {
+        Plane::One => fill(out, 1),
+        Plane::F => widen(a, out),
+        Plane::G => widen(b, out),
+        Plane::FSquared => multiply(a, a, out),
+        Plane::GSquared => multiply(b, b, out),
+        Plane::Product => multiply(a, b, out),
     }
-    if plane == 1 {
-        widen(a, out);
-        return;
-    }
-    if plane == 2 {
-        widen(b, out);
-        return;
-    }
-    if plane == 3 {
-        multiply(a, a, out);
-        return;
-    }
-    if plane == 4 {
-        multiply(b, b, out);
-        return;
-    }
-    multiply(a, b, out);
 }

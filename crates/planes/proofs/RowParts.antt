@@ -7,7 +7,7 @@ use native.Mathlib.Decide.{dec_lt}
 use native.Mathlib.Nat.{le-add_right, mul-le-mul_right}
 use mathlib.Core.Bool.{Bool, ◌&&◌}
 use mathlib.Core.List.{List}
-use lib.Dec.{T, leb, ltb, leb→le, ltb→lt, le→leb, lt→ltb}
+use lib.Dec.{T, leb, ltb, lt→ltb}
 use lib.ListN.{length, take, drop}
 use lib.IntN.{ℤ, pos, nat_abs, ◌+ℤ◌}
 use Rattle.numbers.specs.Sum.{pick}
@@ -22,61 +22,70 @@ use Rattle.overlaps.specs.declared.Overlap.{Overlap}
 use Rattle.picture.specs.Size.{in_range, inside, cells}
 use Rattle.picture.specs.Picture.{Source, plane_value, counts, plane_at, level_of, other_of}
 use Rattle.overlaps.specs.Overlaps.{Overlapping, Clipped}
+use Rattle.overlaps.proofs.Overlaps.{among, among-from, among-upto, not_among}
 use Rattle.plane_values.proofs.ByPlane.{tabulate-as}
 use Rattle.planes.specs.Parts.{padded_value, row_value}
 
--- ---- zeros up to lo, zeros from hi on, and the values from lo to hi
-module _ (p : ℕ) (a b out before behind within : List ℤ) (lo m₁ m₂ m₃ : ℕ)
-    (room : lo + length a ≤ length out)
-    (e₁ : before ≡ tabulate m₁ (λ k. pos 0)) (l₁ : length before ≡ lo - 0)
-    (e₂ : behind ≡ tabulate m₂ (λ k. pos 0)) (l₂ : length behind ≡ length out - (lo + length a))
-    (e₃ : within ≡ tabulate m₃ (λ k. plane_value p (at a k) (at b k))) (l₃ : length within ≡ lo + length a - lo) where
+-- ---- zeros up to lo, zeros from hi on, and the values from lo to hi, each written into a part that was lent
+module _ (p : ℕ) (a b out : List ℤ) (lo : ℕ) (room : lo + length a ≤ length out)
+    (before : List ℤ) (m₁ : ℕ) (e₁ : before ≡ tabulate m₁ (λ k. pos 0)) (lent₁ : length before ≡ length (take (lo - 0) (drop 0 out))) where
   abbrev hi : ℕ
   hi = lo + length a
 
   abbrev once : List ℤ
   once = put_mid 0 (lo - 0) out before
 
-  abbrev twice : List ℤ
-  twice = put_mid hi (length out - hi) once behind
+  l₁ : length before ≡ lo - 0
+  l₁ = lent₁ ∙ slice-length 0 lo out (omega arith) (omega arith)
 
   length-once : length once ≡ length out
   length-once = part_length 0 lo out before (omega arith) (omega arith) l₁
 
-  length-twice : length twice ≡ length out
-  length-twice = part_length hi (length out) once behind (omega arith) (omega (arith, length-once)) l₂ ∙ length-once
+  module _ (behind : List ℤ) (m₂ : ℕ) (e₂ : behind ≡ tabulate m₂ (λ k. pos 0)) (lent₂ : length behind ≡ length (take (length out - hi) (drop hi once))) where
+    abbrev twice : List ℤ
+    twice = put_mid hi (length out - hi) once behind
 
-  padded-at : (k : ℕ) → k < length out → at (put_mid lo (hi - lo) twice within) k ≡ padded_value p a b lo k
-  unfolding padded_value
-  padded-at k k< = go (dec_lt k lo) (dec_lt k hi)
-    where
-      test : Bool
-      test = leb lo k && ltb k hi
+    l₂ : length behind ≡ length out - hi
+    l₂ = lent₂ ∙ slice-length hi (length out) once room (omega (arith, length-once))
 
-      value : ℤ
-      value = plane_value p (at a (k - lo)) (at b (k - lo))
+    length-twice : length twice ≡ length out
+    length-twice = part_length hi (length out) once behind room (omega (arith, length-once)) l₂ ∙ length-once
 
-      go : Dec (k < lo) → Dec (k < hi) → at (put_mid lo (hi - lo) twice within) k ≡ pick test value
-      go (yes h) d =
-          part-before lo hi twice within (omega arith) (omega (arith, length-twice)) l₃ k h
-          ∙ part-before hi (length out) once behind (omega arith) (omega (arith, length-once)) l₂ k (omega arith)
-          ∙ part-within 0 lo out before (omega arith) (omega arith) l₁ k (omega arith) h
-          ∙ tabulate-at before m₁ (λ k. pos 0) e₁ (k - 0) (omega arith)
-          ∙ sym (pick_no test value (λ t. omega (arith, leb→le lo k (and_left (leb lo k) (ltb k hi) t))))
-      go (no h) (yes d) =
-          part-within lo hi twice within (omega arith) (omega (arith, length-twice)) l₃ k (omega arith) d
-          ∙ tabulate-at within m₃ (λ k. plane_value p (at a k) (at b k)) e₃ (k - lo) (omega arith)
-          ∙ sym (pick_yes test value (and_both (leb lo k) (ltb k hi) (le→leb lo k (omega arith)) (lt→ltb k hi d)))
-      go (no h) (no d) =
-          part-after lo hi twice within (omega arith) (omega (arith, length-twice)) l₃ k (omega arith)
-          ∙ part-within hi (length out) once behind (omega arith) (omega (arith, length-once)) l₂ k (omega arith) k<
-          ∙ tabulate-at behind m₂ (λ k. pos 0) e₂ (k - hi) (omega arith)
-          ∙ sym (pick_no test value (λ t. omega (arith, ltb→lt k hi (and_right (leb lo k) (ltb k hi) t))))
+    module _ (within : List ℤ) (m₃ : ℕ) (e₃ : within ≡ tabulate m₃ (λ k. plane_value p (at a k) (at b k))) (lent₃ : length within ≡ length (take (hi - lo) (drop lo twice))) where
+      l₃ : length within ≡ hi - lo
+      l₃ = lent₃ ∙ slice-length lo hi twice (omega arith) (omega (arith, length-twice))
 
-  pub padded-done : put_mid lo (hi - lo) twice within ≡ tabulate (length out) (padded_value p a b lo)
-  padded-done =
-      is-tabulate (put_mid lo (hi - lo) twice within) (length out) (padded_value p a b lo)
-      (part_length lo hi twice within (omega arith) (omega (arith, length-twice)) l₃ ∙ length-twice) padded-at
+      padded-at : (k : ℕ) → k < length out → at (put_mid lo (hi - lo) twice within) k ≡ padded_value p a b lo k
+      unfolding padded_value
+      padded-at k k< = go (dec_lt k lo) (dec_lt k hi)
+        where
+          test : Bool
+          test = leb lo k && ltb k hi
+
+          value : ℤ
+          value = plane_value p (at a (k - lo)) (at b (k - lo))
+
+          go : Dec (k < lo) → Dec (k < hi) → at (put_mid lo (hi - lo) twice within) k ≡ pick test value
+          go (yes h) d =
+              part-before lo hi twice within (omega arith) (omega (arith, length-twice)) l₃ k h
+              ∙ part-before hi (length out) once behind (omega arith) (omega (arith, length-once)) l₂ k (omega arith)
+              ∙ part-within 0 lo out before (omega arith) (omega arith) l₁ k (omega arith) h
+              ∙ tabulate-at before m₁ (λ k. pos 0) e₁ (k - 0) (omega (arith, l₁))
+              ∙ sym (pick_no test value (λ t. omega (arith, among-from lo hi k t)))
+          go (no h) (yes d) =
+              part-within lo hi twice within (omega arith) (omega (arith, length-twice)) l₃ k (omega arith) d
+              ∙ tabulate-at within m₃ (λ k. plane_value p (at a k) (at b k)) e₃ (k - lo) (omega (arith, l₃))
+              ∙ sym (pick_yes test value (among lo hi k (omega arith) d))
+          go (no h) (no d) =
+              part-after lo hi twice within (omega arith) (omega (arith, length-twice)) l₃ k (omega arith)
+              ∙ part-within hi (length out) once behind (omega arith) (omega (arith, length-once)) l₂ k (omega arith) k<
+              ∙ tabulate-at behind m₂ (λ k. pos 0) e₂ (k - hi) (omega (arith, l₂))
+              ∙ sym (pick_no test value (λ t. omega (arith, among-upto lo hi k t)))
+
+      pub padded-done : put_mid lo (hi - lo) twice within ≡ tabulate (length out) (padded_value p a b lo)
+      padded-done =
+          is-tabulate (put_mid lo (hi - lo) twice within) (length out) (padded_value p a b lo)
+          (part_length lo hi twice within (omega arith) (omega (arith, length-twice)) l₃ ∙ length-twice) padded-at
 
 -- ---- the part of a row from column `first` on, of which the columns of r count
 module _ (p : ℕ) (F G : List ℤ) (o r : Overlap) (first n : ℕ) (c : Clipped o first (first + n) r) (part : first + n ≤ length F) (in_g : o.other + (o.end - o.first) ≤ length G) where
@@ -122,11 +131,8 @@ module _ (p : ℕ) (F G : List ℤ) (o r : Overlap) (first n : ℕ) (c : Clipped
 
       outside : (r.first ≤ first + k → first + k < r.end → ⊥) → pick this x ≡ pick that y
       outside never =
-          pick_no this x (λ u. never (omega (arith, c.from, leb→le lo k (and_left (leb lo k) (ltb k (lo + length some-f)) u))) (omega (arith, length_f, c.from, ltb→lt k (lo + length some-f) (and_right (leb lo k) (ltb k (lo + length some-f)) u))))
-          ∙ sym (pick_no that y (λ u. inside (rw clip at u)))
-        where
-          inside : T (leb r.first (first + k) && ltb (first + k) r.end) → ⊥
-          inside u = never (leb→le r.first (first + k) (and_left (leb r.first (first + k)) (ltb (first + k) r.end) u)) (ltb→lt (first + k) r.end (and_right (leb r.first (first + k)) (ltb (first + k) r.end) u))
+          pick_no this x (not_among lo (lo + length some-f) k (λ u v. never (omega (arith, c.from)) (omega (arith, length_f, c.from))))
+          ∙ sym (pick_no that y (λ u. not_among r.first r.end (first + k) never (rw clip at u)))
 
       same-f : r.first ≤ first + k → first + k < r.end → at some-f (k - lo) ≡ at F (first + k)
       same-f a b =
@@ -143,9 +149,9 @@ module _ (p : ℕ) (F G : List ℤ) (o r : Overlap) (first n : ℕ) (c : Clipped
       go (yes a) d = outside (λ u v. omega arith)
       go (no a) (no b) = outside (λ u v. omega arith)
       go (no a) (yes b) =
-          pick_yes this x (and_both (leb lo k) (ltb k (lo + length some-f)) (le→leb lo k (omega arith)) (lt→ltb k (lo + length some-f) (omega (arith, length_f, c.from))))
+          pick_yes this x (among lo (lo + length some-f) k (omega arith) (omega (arith, length_f, c.from)))
           ∙ ap₂ (plane_value p) (same-f (omega arith) b) (same-g (omega arith) b)
-          ∙ sym (pick_yes that y (rw clip (and_both (leb r.first (first + k)) (ltb (first + k) r.end) (le→leb r.first (first + k) (omega arith)) (lt→ltb (first + k) r.end b))))
+          ∙ sym (pick_yes that y (rw clip (among r.first r.end (first + k) (omega arith) b)))
 
   pub row-part-done : (out : List ℤ) → out ≡ tabulate n (padded_value p some-f some-g (r.first - first)) → out ≡ tabulate n (λ k. row_value p F G o (first + k))
   row-part-done out e = e ∙ tabulate-cong n (padded_value p some-f some-g (r.first - first)) (λ k. row_value p F G o (first + k)) row-part-at
@@ -176,16 +182,16 @@ module _ (x : Source) (m : ℕ) (down : Overlap) (inside-rows : m < x.size.rows)
   columns = x.size.columns
 
   -- the row of g is outside the picture
-  plane-outside : (n : ℕ) → (T (leb down.first m && ltb m down.end) → ⊥) → plane_at x m n ≡ pos 0
+  plane-outside : (n : ℕ) → (down.first ≤ m → m < down.end → ⊥) → plane_at x m n ≡ pos 0
   unfolding plane_at counts
-  plane-outside n h =
+  plane-outside n never =
       let there = in_range rows (pos m +ℤ x.shift.down) in
       let across = in_range columns (pos n +ℤ x.shift.right) in
       pick_no (counts x m n) _
-      (λ t. h (rw (← v.counts m inside-rows) (and_left there across (and_right (inside x.size (pos m) (pos n)) (there && across) t))))
+      (λ t. not_among down.first down.end m never (rw (← v.counts m inside-rows) (and_left there across (and_right (inside x.size (pos m) (pos n)) (there && across) t))))
 
-  pub part_none : (first k : ℕ) (out : List ℤ) → (T (leb down.first m && ltb m down.end) → ⊥) → out ≡ tabulate k (λ n. pos 0) → out ≡ tabulate k (λ n. plane_at x m (first + n))
-  part_none first k out h e = tabulate-as k (λ n. pos 0) (λ n. plane_at x m (first + n)) out e (λ n. plane-outside (first + n) h)
+  pub part_none : (first k : ℕ) (out : List ℤ) → (down.first ≤ m → m < down.end → ⊥) → out ≡ tabulate k (λ n. pos 0) → out ≡ tabulate k (λ n. plane_at x m (first + n))
+  part_none first k out never e = tabulate-as k (λ n. pos 0) (λ n. plane_at x m (first + n)) out e (λ n. plane-outside (first + n) never)
 
   module _ (right : Overlap) (h : Overlapping columns x.shift.right right) (from : down.first ≤ m) (upto : m < down.end)
       (length_f : length x.f ≡ cells x.size) (length_g : length x.g ≡ cells x.size) where
@@ -240,17 +246,18 @@ module _ (x : Source) (m : ℕ) (down : Overlap) (inside-rows : m < x.size.rows)
         b : ℤ
         b = plane_value x.plane (level_of x m n) (other_of x m n)
 
-        off-both : (T this → ⊥) → pick this a ≡ pick (here && (there && across)) b
-        off-both no-column =
+        off-both : (right.first ≤ n → n < right.end → ⊥) → pick this a ≡ pick (here && (there && across)) b
+        off-both never =
+            let no-column = not_among right.first right.end n never in
             pick_no this a no-column
             ∙ sym (pick_no (here && (there && across)) b (λ t. no-column (rw (← h.counts n n<) (and_right there across (and_right here (there && across) t)))))
 
         go : Dec (n < right.first) → Dec (n < right.end) → pick this a ≡ pick (here && (there && across)) b
-        go (yes l) d = off-both (λ t. omega (arith, leb→le right.first n (and_left (leb right.first n) (ltb n right.end) t)))
-        go (no l) (no d) = off-both (λ t. omega (arith, ltb→lt n right.end (and_right (leb right.first n) (ltb n right.end) t)))
+        go (yes l) d = off-both (λ u v. omega arith)
+        go (no l) (no d) = off-both (λ u v. omega arith)
         go (no l) (yes d) =
-            let on-column : T this = and_both (leb right.first n) (ltb n right.end) (le→leb right.first n (omega arith)) (lt→ltb n right.end d) in
-            let on_row : T (leb down.first m && ltb m down.end) = and_both (leb down.first m) (ltb m down.end) (le→leb down.first m from) (lt→ltb m down.end upto) in
+            let on-column : T this = among right.first right.end n (omega arith) d in
+            let on_row = among down.first down.end m from upto in
             pick_yes this a on-column
             ∙ ap (λ (y : ℤ). plane_value x.plane y (at row-g (right.other + (n - right.first)))) (at_f n n<)
             ∙ ap (λ (y : ℤ). plane_value x.plane (level_of x m n) y) (at_g n (omega arith) d)

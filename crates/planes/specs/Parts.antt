@@ -1,10 +1,9 @@
 -- What the code of a plane's row means: the values along one row. (The planes themselves are in `Picture`.)
 -- Assumes nothing.
-use Rattle.std.specs.Prelude.{◌≡◌, ℕ, ◌+◌, ◌-◌, ◌≤◌, ◌<◌, ◌&&◌, List, T, leb, ltb, length, get_or, ℤ, pos}
+use Rattle.std.specs.Prelude.{◌≡◌, ℕ, ◌+◌, ◌-◌, ◌≤◌, ◌<◌, ◌&&◌, List, leb, ltb, length, get_or, ℤ, pos}
 use Rattle.numbers.specs.Sum.{pick}
 use Rattle.picture.specs.declared.Size.{Size}
 use Rattle.overlaps.specs.declared.Overlap.{Overlap}
-use Rattle.picture.specs.Size.{size_legal, cells}
 use Rattle.picture.specs.Picture.{plane_value}
 
 -- the value of plane p at column n of a row with levels F, where G is the row of g that it meets
@@ -26,10 +25,7 @@ pub record RowAsked (F G : List ℤ) (o : Overlap) (first : ℕ) (out : List ℤ
   pub in_g : o.other + (o.end - o.first) ≤ length G
   pub part : first + length out ≤ length F
 
--- what a plane's part asks: pictures of a legal size, a row of it, and columns of it
-pub record PartAsked (z : Size) (f g : List ℤ) (row first : ℕ) (out : List ℤ) : Type 0 where
-  pub size : T (size_legal z)
-  pub length_f : length f ≡ cells z
-  pub length_g : length g ≡ cells z
+-- what a plane's part asks: a row of the picture, and columns of it
+pub record PartAsked (z : Size) (row first : ℕ) (out : List ℤ) : Type 0 where
   pub row_inside : row < z.rows
   pub part_inside : first + length out ≤ z.columns

@@ -5,17 +5,18 @@
 ghost use Rattle.std.specs.Prelude.{◌≡◌, ◌+◌, length};
 ghost use Rattle.numbers.specs.Grid.{tabulate};
 ghost use Rattle.picture.specs.Picture.{plane_at};
-ghost use Rattle.picture.specs.Given.{source_of};
+ghost use Rattle.picture.specs.Plane.{plane_number};
+ghost use Rattle.picture.specs.Checked.{checked_source};
 ghost use Rattle.planes.specs.Parts.{padded_value, PaddedAsked, row_value, RowAsked, PartAsked};
 
 use overlaps::Overlap;
-use picture::Source;
+use picture::{CheckedSource, Plane};
 use plane_values::{fill, values};
 
-// The same from place lo on, with zeros before and behind.
-fn padded(plane: u32, a: &[i16], b: &[i16], lo: usize, out: &mut [i64])
+// The plane's values from place lo of out on, and zeros before and behind them. The place is a number, since out is filled on both sides of it.
+fn padded(plane: Plane, a: &[i16], b: &[i16], lo: usize, out: &mut [i64])
     requires { PaddedAsked a.now b.now lo out.old }
-    ensures { out.new ≡ tabulate (length out.old) (padded_value plane a.now b.now lo) }
+    ensures { out.new ≡ tabulate (length out.old) (padded_value (plane_number plane) a.now b.now lo) }
 {
     let zero = 0;
     let hi = lo + a.len();
@@ -27,7 +28,7 @@ fn padded(plane: u32, a: &[i16], b: &[i16], lo: usize, out: &mut [i64])
 
 // The part from column `first` on of a row with these levels; others are those of the row of g that it meets.
 fn row_part(
-    plane: u32,
+    plane: Plane,
     levels: &[i16],
     others: &[i16],
     counting: Overlap,
@@ -35,7 +36,7 @@ fn row_part(
     out: &mut [i64],
 )
     requires { RowAsked levels.now others.now counting first out.old }
-    ensures { out.new ≡ tabulate (length out.old) (λ k. row_value plane levels.now others.now counting (first + k)) }
+    ensures { out.new ≡ tabulate (length out.old) (λ k. row_value (plane_number plane) levels.now others.now counting (first + k)) }
 {
     let part = overlaps::clipped(counting, first, first + out.len());
     let from = part.first;
@@ -52,9 +53,9 @@ fn row_part(
 }
 
 // The cells (row, first), (row, first + 1), .. of the plane, as many as out has room for.
-pub fn part(source: &Source<'_>, row: usize, first: usize, out: &mut [i64])
-    requires { PartAsked source.now.size source.now.f.now source.now.g.now row first out.old }
-    ensures { out.new ≡ tabulate (length out.old) (λ k. plane_at (source_of source.now) row (first + k)) }
+pub fn part(source: &CheckedSource<'_>, row: usize, first: usize, out: &mut [i64])
+    requires { PartAsked source.now.size row first out.old }
+    ensures { out.new ≡ tabulate (length out.old) (λ k. plane_at (checked_source source.now) row (first + k)) }
 {
     let rows = source.size.rows;
     let columns = source.size.columns;
@@ -64,11 +65,7 @@ pub fn part(source: &Source<'_>, row: usize, first: usize, out: &mut [i64])
     let top = counting.first;
     let bottom = counting.end;
     let other = counting.other;
-    if row < top {
-        fill(out, 0);
-        return;
-    }
-    if bottom <= row {
+    if row < top || bottom <= row {
         fill(out, 0);
         return;
     }

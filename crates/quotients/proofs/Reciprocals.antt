@@ -1,16 +1,21 @@
 -- A quotient by multiplication, and the nearest whole number as a quotient of naturals.
 -- Assumes nothing.
-use mathlib.Core.Path.{◌≡◌, sym, ◌∙◌}
-use mathlib.Core.List.{List, [], ◌∷◌}
+use mathlib.Core.Path.{◌≡◌, ap₂, ◌∙◌}
+use mathlib.Core.List.{[], ◌∷◌}
 use Prim.Native.Nat.{ℕ, ◌+◌, ◌-◌, ◌*◌, ◌/◌, ◌%◌, ◌^◌, ◌≤◌, ◌<◌}
 use native.Mathlib.Omega.{arith}
-use native.Mathlib.Nat.{div-add-mod', mod-lt, mul-le-mul, mul-le-mul_left, mul-le-mul_right}
+use native.Mathlib.Nat.{div-le_self, div-add-mod', mod-lt, mul-le-mul, mul-le-mul_left, mul-le-mul_right}
 use native.Mathlib.Decide.{dec_lt}
-use lib.IntN.{ℤ, pos, ◌+ℤ◌, ◌-ℤ◌, ◌*ℤ◌}
+use lib.IntN.{ℤ, pos, nat_abs, ◌+ℤ◌, ◌-ℤ◌, ◌*ℤ◌}
+use mir.Syntax.{w64}
+use mir.Val.{SFits, to_z, of_z}
+use Rattle.std.proofs.lemmas.Int.{ints}
 use Rattle.numbers.specs.Round.{nearest}
 use Rattle.numbers.proofs.Integers.{add-law, sub-lawℤ, leℤ, ltℤ, of_eq}
+use Rattle.numbers.proofs.Magnitudes.{size-mul, size-add}
 use Rattle.numbers.proofs.Ring.{X, ◌⊖◌, ◌⊗◌, ring}
-use Rattle.numbers.proofs.Rounds.{IsNearest, nearest-law, nearest-unique}
+use Rattle.numbers.proofs.Rounds.{nearest-law, nearest-unique}
+use Rattle.quotients.specs.Quotients.{Dividend}
 
 -- With M d = 2^64 - t and x = q d + r, the product (x + 1) M is q 2^64 and (r + 1) M - q t, which is between 0 and 2^64.
 module _ (x d : ℕ) (some : 0 < d) (few : d ≤ 2 ^ 20) (small : x < 2 ^ 40) where
@@ -66,3 +71,34 @@ nearest-raised x d u some e =
       above = ltℤ (pos 2 *ℤ x) (w *ℤ m +ℤ pos d) (omega (arith, of_eq f, of_eq e, add-law (pos 2 *ℤ x) (pos (65537 * d)), add-law (w *ℤ m) (pos d), sub-lawℤ (w *ℤ pos q) (w *ℤ pos 32768)));
     })
     (nearest-law x d some)
+
+-- the upper word of the product, where the code holds its signed numbers as bits
+module _ (x : ℤ) (fits : SFits w64 x) (d by : ℕ) (h : Dividend x d by) (high low : ℕ) (l : low < 2 ^ 64) where
+  abbrev held : ℤ
+  held = to_z w64 (of_z w64 (to_z w64 (of_z w64 (pos 2 *ℤ to_z w64 (of_z w64 x))) +ℤ to_z w64 (of_z w64 (pos 65537 *ℤ to_z w64 d))))
+
+  abbrev raised : ℤ
+  raised = pos 2 *ℤ x +ℤ pos (65537 * d)
+
+  held-is : held ≡ raised
+  held-is = omega (arith, ints, h.divisor.few, h.small)
+
+  raised-size : nat_abs raised ≤ 131073 * d
+  raised-size = omega (arith, h.small, size-mul (pos 2) x, size-add (pos 2 *ℤ x) (pos (65537 * d)))
+
+  raised-whole : pos (nat_abs raised) ≡ raised
+  raised-whole = omega (arith, ints, h.small)
+
+  module _ (e : high * 2 ^ 64 + low ≡ (nat_abs held + 1) * by) where
+    high-is : high ≡ nat_abs raised / (2 * d)
+    high-is =
+        by_reciprocal (nat_abs raised) (2 * d) (omega (arith, h.divisor.some)) (omega (arith, h.divisor.few)) (omega (arith, raised-size, h.divisor.few))
+        high low (e ∙ ap₂ (λ (z : ℤ) (m : ℕ). (nat_abs z + 1) * m) held-is h.known) l
+
+    pub high-small : high < 2 ^ 40
+    high-small = omega (arith, high-is, div-le_self (nat_abs raised) (2 * d), raised-size, h.divisor.few)
+
+    pub high-nearest : to_z w64 (of_z w64 (to_z w64 high -ℤ pos 32768)) ≡ nearest x d
+    high-nearest =
+        let e : to_z w64 (of_z w64 (to_z w64 high -ℤ pos 32768)) ≡ pos high -ℤ pos 32768 = omega (arith, ints, high-small) in
+        e ∙ rw high-is (nearest-raised x d (nat_abs raised) h.divisor.some raised-whole)

@@ -36,6 +36,7 @@ impl Lent {
 // No refusal's number: of a row call that was refused and moved the position.
 const MOVED: u64 = 98;
 
+// A number, since the trial prints numbers, 0 for a call that was taken.
 fn rows_refusal(answer: Result<usize, Refusal>, before: usize, after: usize) -> u64 {
     if answer.is_err() && after != before {
         return MOVED;

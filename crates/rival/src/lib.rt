@@ -13,11 +13,7 @@ pub mod moments; // moments.rt: the rival's statistics
 fn total<F: Fn(usize) -> i64 + Drop>(n: usize, f: F) -> i64
     requires { F.IsAlwaysCallable f }
 {
-    let mut s = 0i64;
-    for k in 0..n {
-        s = s.wrapping_add(f(k));
-    }
-    s
+    (0..n).fold(0i64, |s, k| s.wrapping_add(f(k)))
 }
 
 // The half height of a diamond or hexagon, and the distance to which its rows reach.
@@ -101,6 +97,7 @@ impl<'a> Given<'a> {
     }
 
     // "A cell (m, n) counts when it and (m+u, n+v) are both inside the picture." "At every other cell it is 0." The column n is inside.
+    // One `match`, since both have to be inside: with `?` it would give an Option, which every caller had to open.
     fn value(&self, m: usize, n: usize) -> i64 {
         let c = self.case;
         let to = (

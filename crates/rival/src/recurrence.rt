@@ -8,13 +8,12 @@ fn depth(c: Case, q: usize) -> Option<usize> {
     reach(c).checked_sub(q).map(|rest| rest.min(height(c)))
 }
 
-// Where a call begins: what it is given, the work area among that, its position, and whether its session began fresh.
+// Where a call begins: what it is given, the work area among that, and its position where the session did not begin fresh.
 #[derive(Clone, Copy)]
 pub struct Begun<'a> {
     pub given: Given<'a>,
     pub area: &'a [i64],
-    pub fresh: bool,
-    pub position: usize,
+    pub foreign: Option<usize>,
 }
 
 impl<'a> Begun<'a> {
@@ -50,10 +49,10 @@ impl<'a> Begun<'a> {
     // is not read; else by the recurrence.
     pub fn work(&self, i: usize, j: usize) -> i64 {
         let given = self.given;
-        if self.fresh {
+        let Some(position) = self.foreign else {
             return given.work(i, j);
-        }
-        match self.position.checked_sub(1) {
+        };
+        match position.checked_sub(1) {
             Some(before) => self.moved(before, i, j, areas::read(self.area, j)),
             None => self.moved(0, i, j, given.work(0, j)),
         }
@@ -74,11 +73,9 @@ impl<'a> Begun<'a> {
     // The output number of row i at column j; "for the others .. the new work area".
     pub fn output(&self, i: usize, j: usize) -> i64 {
         let given = self.given;
-        if self.fresh {
-            return given.sum(i, j);
-        }
-        match given.case.shape {
-            Shape::Rectangle => self.across(i, j),
+        match (self.foreign, given.case.shape) {
+            (None, _) => given.sum(i, j),
+            (Some(_), Shape::Rectangle) => self.across(i, j),
             _ => self.work(i, j),
         }
     }

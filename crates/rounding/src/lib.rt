@@ -7,21 +7,13 @@ ghost use Rattle.numbers.specs.Round.{nearest, root_over};
 ghost use Rattle.statistics.specs.Voice.{over32768};
 ghost use Rattle.statistics.specs.Limits.{Quotient, Ratio};
 
-// The whole number nearest to x / d, a half going up: (2x + d) / 2d, rounded down. Division is toward zero, so it is one too large where the
-// remainder is negative.
+// The whole number nearest to x / d, a half going up: (2x + d) / 2d, rounded down.
 pub fn nearest(x: i64, d: u64) -> i64
     requires { Quotient x d }
     ensures { result ≡ nearest x d }
 {
     let divisor = d as i64;
-    let top = 2 * x + divisor;
-    let bottom = 2 * divisor;
-    let quotient = top / bottom;
-    let remainder = top % bottom;
-    if remainder < 0 {
-        return quotient - 1;
-    }
-    quotient
+    (2 * x + divisor).div_euclid(2 * divisor)
 }
 
 // The largest d with d²·q ≤ v: the whole root of v / q, which is of 31 bits.

@@ -8,9 +8,6 @@ use Prim.Native.Nat.{ℕ, ◌+◌, ◌-◌, ◌*◌, ◌≤◌, ◌<◌}
 use native.Mathlib.Omega.{arith}
 use lib.Dec.{T, leb, ltb, eqb, lt→ltb, leb→le, eqb→eq, nltb→le}
 use Rattle.std.proofs.Math.Facts.{leb_no}
-use Rattle.std.specs.Prelude.{Result, IsErrAnd}
-use Rattle.picture.specs.declared.Refusal.{Refusal}
-use Rattle.picture.specs.Answers.{number, refused_by}
 use lib.IntN.{ℤ}
 use lib.ListN.{length}
 use borrow.Author.Tests.{le-ltb}
@@ -19,7 +16,7 @@ use Rattle.picture.specs.Refusal.{Outcome, Check, ◌when◌, refused, answered,
 use Rattle.picture.specs.Window.{shape_of}
 use Rattle.picture.specs.Picture.{Inputs, plane_at}
 use Rattle.picture.specs.Conditions.{input_checks, accepted, check7, check8}
-use Rattle.picture.proofs.Refusals.{none_before, none_after, none-head, none_rest, unsound, stop-here, pass, sound}
+use Rattle.picture.proofs.Refusals.{none_before, none_after, none-head, none_rest, unsound, stop, pass, sound}
 use Rattle.session.specs.Rows.{RowOutcome, Strip, strip, row_checks, row_result, row_call}
 
 -- 7, by the position first, as code makes it: a check for each half
@@ -35,17 +32,15 @@ module _ (rows position request : ℕ) where
   abbrev seven : Bool
   seven = ltb rows position || ltb (rows - position) request
 
-  pub seven-position : (r : Result Unit Refusal) (e : Refusal) (rest : List Check) → some (number e) ≡ refusal ((7 when not (leb position rows)) ∷ []) → IsErrAnd r (λ y. y ≡ e) →
-      refused_by r ≡ refusal ((7 when (ltb rows position || ltb (rows - position) request)) ∷ rest)
-  seven-position r e rest h q =
-      let u = unsound 7 (leb position rows) (number e) h in
-      stop-here r e 7 seven rest (or_left (ltb rows position) (ltb (rows - position) request) (lt→ltb rows position (leb_no u.0))) u.1 q
+  pub seven-position : (n : ℕ) (rest : List Check) → some n ≡ refusal ((7 when not (leb position rows)) ∷ []) → some n ≡ refusal ((7 when (ltb rows position || ltb (rows - position) request)) ∷ rest)
+  seven-position n rest h =
+      let u = unsound 7 (leb position rows) n h in
+      ap some u.1 ∙ sym (stop 7 seven rest (or_left (ltb rows position) (ltb (rows - position) request) (lt→ltb rows position (leb_no u.0))))
 
-  pub seven-request : (r : Result Unit Refusal) (e : Refusal) (rest : List Check) → some (number e) ≡ refusal ((7 when not (leb request (rows - position))) ∷ []) → IsErrAnd r (λ y. y ≡ e) →
-      refused_by r ≡ refusal ((7 when (ltb rows position || ltb (rows - position) request)) ∷ rest)
-  seven-request r e rest h q =
-      let u = unsound 7 (leb request (rows - position)) (number e) h in
-      stop-here r e 7 seven rest (or_right (ltb rows position) (ltb (rows - position) request) (lt→ltb (rows - position) request (leb_no u.0))) u.1 q
+  pub seven-request : (n : ℕ) (rest : List Check) → some n ≡ refusal ((7 when not (leb request (rows - position))) ∷ []) → some n ≡ refusal ((7 when (ltb rows position || ltb (rows - position) request)) ∷ rest)
+  seven-request n rest h =
+      let u = unsound 7 (leb request (rows - position)) n h in
+      ap some u.1 ∙ sym (stop 7 seven rest (or_right (ltb rows position) (ltb (rows - position) request) (lt→ltb (rows - position) request (leb_no u.0))))
 
   seven-off : position ≤ rows → request ≤ rows - position → (ltb rows position || ltb (rows - position) request) ≡ false
   seven-off h k = rw (le-ltb rows position h, le-ltb (rows - position) request k)

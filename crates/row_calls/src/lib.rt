@@ -2,31 +2,33 @@
 #![tactic(auto)]
 
 ghost use Rattle.std.specs.Prelude.{◌≡◌};
-ghost use Rattle.picture.specs.Refusal.{refusal};
-ghost use Rattle.picture.specs.Answers.{outcome_of, refused_by};
+ghost use Rattle.picture.specs.Refusal.{refusal, outcome};
+ghost use Rattle.picture.specs.Answers.{outcome_of, outcome_by};
 ghost use Rattle.picture.specs.Given.{inputs_of};
+ghost use Rattle.picture.specs.Checked.{checked_inputs};
 ghost use Rattle.session.specs.Rows.{row_checks, row_call};
 
 use checks::{check_inputs, require};
-use picture::{Inputs, Refusal};
+use picture::{CheckedInputs, Inputs, Refusal};
 
 // 1 to 5, 7 and 8: the checks of the row call.
-fn check_rows(
-    inputs: &Inputs<'_>,
+fn check_rows<'a>(
+    inputs: &Inputs<'a>,
     position: usize,
     request: usize,
     work: &[i64],
     out: &[i64],
-) -> Result<(), Refusal>
-    ensures { refused_by result ≡ refusal (row_checks (inputs_of inputs.now) position request work.now out.now) }
+) -> Result<CheckedInputs<'a>, Refusal>
+    ensures { outcome_by checked_inputs result ≡ outcome (refusal (row_checks (inputs_of inputs.now) position request work.now out.now)) (inputs_of inputs.now) }
 {
-    check_inputs(inputs)?;
+    let checked = check_inputs(inputs)?;
     let rows = inputs.source.size.rows;
     let columns = inputs.source.size.columns;
     require(position <= rows, Refusal::Position)?;
     require(request <= rows - position, Refusal::Position)?;
     require(work.len() == columns, Refusal::Area)?;
-    require(out.len() == request * columns, Refusal::Area)
+    require(out.len() == request * columns, Refusal::Area)?;
+    Ok(checked)
 }
 
 // The row call on a plain position: "It writes the sums of the next n rows, moves the position on by n and answers n".
@@ -42,10 +44,8 @@ pub fn rows_at(
     ensures work { work.new ≡ (row_call (inputs_of inputs.now) position.old request work.old out.old).work }
     ensures output { out.new ≡ (row_call (inputs_of inputs.now) position.old request work.old out.old).output }
 {
-    check_rows(inputs, *position, request, work, out)?;
-    levels::known(inputs.source.f);
-    levels::known(inputs.source.g);
-    advance::many(*position, inputs, request, work, out);
+    let checked = check_rows(inputs, *position, request, work, out)?;
+    advance::many(*position, &checked, request, work, out);
     *position += request;
     Ok(request)
 }

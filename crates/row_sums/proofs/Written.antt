@@ -1,42 +1,41 @@
 -- A row of the table that a loop has written in part.
 -- Assumes nothing.
-use mathlib.Core.Path.{◌≡◌, refl, ◌∙◌}
-use mathlib.Core.List.{List}
-use Prim.Native.Nat.{ℕ, suc, ◌+◌, ◌-◌, ◌≤◌, ◌<◌}
-use native.Mathlib.Omega.{arith}
-use native.Mathlib.Decide.{ℕ_discrete}
-use lib.IntN.{ℤ, pos, ◌+ℤ◌}
-use lib.ListN.{length, set, length-set}
-use lib.Seq.{get_or-set_same, get_or-set_other}
+use mathlib.Core.Path.{◌≡◌, sym, ◌∙◌, ap}
+use mathlib.Core.List.{List, []}
+use Prim.Native.Nat.{ℕ, suc, ◌+◌, ◌≤◌, ◌<◌}
+use native.Mathlib.Numerals.{add-one}
+use lib.IntN.{ℤ, pos, ◌+ℤ◌, +ℤ_idl}
+use lib.ListN.{length, set}
+use Rattle.numbers.specs.Grid.{tabulate}
 use Rattle.numbers.specs.Sum.{sum_to}
 use Rattle.numbers.specs.Wrap.{wrap}
+use Rattle.numbers.proofs.Running.{running_none, running_more, wrap-wrap}
 use Rattle.numbers.proofs.Wraps.{wrap-add-right}
-use Rattle.numbers.proofs.Writes.{at}
-use Rattle.row_sums.specs.RowSums.{next_number}
+use Rattle.numbers.proofs.Writes.{at, Upto, upto-none, upto-more, upto_all}
+use Rattle.row_sums.specs.RowSums.{row_number}
 
--- the number at column j of a row that is written
-pub next-number : (row : ℕ → ℤ) (j : ℕ) (x y s v : ℤ) → x ≡ y → s ≡ wrap (sum_to (suc j) row) → v ≡ wrap (x +ℤ s) → v ≡ next_number y row j
-next-number row j x y s v ex es ev = rw (ev, ex, es) (wrap-add-right y (sum_to (suc j) row))
+-- j numbers of the row are the table's, and the rest is as it was
+pub record Written (above : List ℤ) (row : ℕ → ℤ) (old now : List ℤ) (sum : ℤ) (j : ℕ) : Type 0 where
+  pub summed : sum ≡ wrap (sum_to j row)
+  pub numbers : Upto (row_number above row) old now j
 
--- ---- a loop that writes the row at `start`: n of its numbers are the table's, and all else is as it was
-pub record Written (columns start : ℕ) (row : ℕ → ℤ) (old now : List ℤ) (n : ℕ) : Type 0 where
-  pub size : length now ≡ length old
-  pub kept : (k : ℕ) → k < start → at now k ≡ at old k
-  pub done : (j : ℕ) → j < n → at now (start + j) ≡ next_number (at old (start - columns + j)) row j
-  pub rest : (j : ℕ) → n ≤ j → at now (start + j) ≡ at old (start + j)
+pub written_none : (above : List ℤ) (row : ℕ → ℤ) (old : List ℤ) → Written above row old old (pos 0) 0
+written_none above row old = record { summed = running_none row; numbers = upto-none (row_number above row) old }
 
-pub written_none : (columns start : ℕ) (row : ℕ → ℤ) (old : List ℤ) → Written columns start row old old 0
-written_none columns start row old = record { size = refl; kept = λ k h. refl; done = λ j h. absurd (omega arith); rest = λ j h. refl }
+module _ {above : List ℤ} {row : ℕ → ℤ} {old now : List ℤ} {sum : ℤ} {j : ℕ} (w : Written above row old now sum j) where
+  -- one number more: the value x is added to the sum, and the sum to the number above
+  pub written-more : (x next v : ℤ) → j < length old → x ≡ row j → next ≡ wrap (sum +ℤ x) → v ≡ wrap (at above j +ℤ next) → Written above row old (set now j v) next (j + 1)
+  written-more x next v room value is-next is-v =
+      let e : next ≡ wrap (sum_to (suc j) row) = is-next ∙ running_more row j sum x w.summed (ap wrap value) in
+      record {
+        summed = e ∙ ap (λ (n : ℕ). wrap (sum_to n row)) (sym (add-one j));
+        numbers = upto-more w.numbers v room (is-v ∙ ap (λ (y : ℤ). wrap (at above j +ℤ y)) e ∙ wrap-add-right (at above j) (sum_to (suc j) row));
+      }
 
-module _ {columns start n : ℕ} {row : ℕ → ℤ} {old now : List ℤ} (w : Written columns start row old now n) (v : ℤ) (room : start + n < length old) (e : v ≡ next_number (at old (start - columns + n)) row n) where
-  done-by : (j : ℕ) → j < n + 1 → Dec (j ≡ n) → at (set now (start + n) v) (start + j) ≡ next_number (at old (start - columns + j)) row j
-  done-by j h (yes p) = rw p (get_or-set_same now (start + n) v (pos 0) (omega (arith, w.size)) ∙ e)
-  done-by j h (no p) = get_or-set_other now (start + n) (start + j) v (pos 0) (λ q. p (omega arith)) ∙ w.done j (omega arith)
+  pub written_all : length old ≤ j → now ≡ tabulate (length old) (row_number above row)
+  written_all all = upto_all w.numbers all
 
-  pub written-more : Written columns start row old (set now (start + n) v) (n + 1)
-  written-more = record {
-    size = length-set now (start + n) v ∙ w.size;
-    kept = λ k h. get_or-set_other now (start + n) k v (pos 0) (λ p. omega arith) ∙ w.kept k h;
-    done = λ j h. done-by j h (ℕ_discrete j n);
-    rest = λ j h. get_or-set_other now (start + n) (start + j) v (pos 0) (λ p. omega arith) ∙ w.rest j (omega arith);
-  }
+-- the same where nothing stands above
+pub first_more : {row : ℕ → ℤ} {old now : List ℤ} {sum : ℤ} {j : ℕ} → Written [] row old now sum j → (x next : ℤ) → j < length old → x ≡ row j → next ≡ wrap (sum +ℤ x) → Written [] row old (set now j next) next (j + 1)
+first_more {row} {old} {now} {sum} {j} w x next room value is-next =
+    written-more w x next next room value is-next (is-next ∙ sym (wrap-wrap (sum +ℤ x)) ∙ sym (ap wrap (+ℤ_idl next ∙ is-next)))

@@ -1,33 +1,31 @@
-// The table's rows, each from the plane's row and the row above: loops over one row.
+// The table's rows, each from the plane's row in its place: loops over one row.
 // For callers that have checked their inputs.
 #![tactic(auto)]
 
-ghost use Rattle.std.specs.Prelude.{◌≤◌, length};
-ghost use Rattle.row_sums.specs.RowSums.{RowRoom, row_from, NextRow, FirstRow};
+ghost use Rattle.std.specs.Prelude.{◌≡◌, [], length};
+ghost use Rattle.numbers.specs.Grid.{tabulate};
+ghost use Rattle.row_sums.specs.RowSums.{number, row_number};
 
 // The table's first row, from the plane's in its place: the running sums.
-pub fn first_row(columns: usize, table: &mut [i64])
-    requires { columns ≤ length table.old }
-    ensures { FirstRow columns table.old table.new }
+pub fn first_row(row: &mut [i64])
+    ensures { row.new ≡ tabulate (length row.old) (row_number [] (number row.old)) }
 {
     let mut sum = 0i64;
-    for j in 0..columns {
-        sum = wrapping::wrapping_add(sum, table[j]);
-        table[j] = sum;
+    for j in 0..row.len() {
+        sum = wrapping::wrapping_add(sum, row[j]);
+        row[j] = sum;
     }
 }
 
-// The table's row at `start`, from the plane's in its place and the row above it.
-pub fn next_row(columns: usize, start: usize, table: &mut [i64])
-    requires { RowRoom columns start table.old }
-    ensures { NextRow columns start (row_from table.old start) table.old table.new }
+// A later row of the table, from the plane's in its place and the row above it. Levels have a loop of their own, in `level_sums`: a closure for both would
+// have to read the row that the loop is writing.
+pub fn next_row(above: &[i64], row: &mut [i64])
+    requires { length above.now ≡ length row.old }
+    ensures { row.new ≡ tabulate (length row.old) (row_number above.now (number row.old)) }
 {
-    let above = start - columns;
     let mut sum = 0i64;
-    for j in 0..columns {
-        let at = start + j;
-        sum = wrapping::wrapping_add(sum, table[at]);
-        let number = wrapping::wrapping_add(table[above + j], sum);
-        table[at] = number;
+    for j in 0..row.len() {
+        sum = wrapping::wrapping_add(sum, row[j]);
+        row[j] = wrapping::wrapping_add(above[j], sum);
     }
 }

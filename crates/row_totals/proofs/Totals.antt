@@ -3,19 +3,14 @@
 use mathlib.Core.Path.{◌≡◌, refl, sym, ap, ◌∙◌}
 use Prim.Native.Nat.{ℕ, zero, suc, ◌+◌, ◌*◌, ◌≤◌, ◌<◌}
 use native.Mathlib.Omega.{arith}
-use mathlib.Core.List.{List}
-use lib.ListN.{length}
 use native.Mathlib.Numerals.{add-one}
 use lib.IntN.{ℤ, pos, nat_abs, ◌+ℤ◌}
-use mir.Syntax.{w16, w32, w64}
+use mir.Syntax.{w16, w32}
 use mir.Val.{SFits}
 use Rattle.numbers.specs.Sum.{sum_to}
-use Rattle.numbers.specs.Wrap.{wrap}
-use Rattle.numbers.proofs.Magnitudes.{size-add, fits-at, fits64}
+use Rattle.numbers.proofs.Magnitudes.{size-add, fits-at}
 use Rattle.numbers.proofs.Widths.{level-size}
-use Rattle.numbers.proofs.Sums.{sum-suc, sum-cong}
-use Rattle.numbers.proofs.Writes.{at}
-use Rattle.picture.specs.Picture.{plane_value}
+use Rattle.numbers.proofs.Sums.{sum-suc}
 
 -- ---- levels, in 32 bits: s is the sum of the first k
 pub record Exact (f : ℕ → ℤ) (k : ℕ) (s : ℤ) : Type 0 where
@@ -25,9 +20,6 @@ pub record Exact (f : ℕ → ℤ) (k : ℕ) (s : ℤ) : Type 0 where
 pub exact_none : (f : ℕ → ℤ) → Exact f 0 (pos 0)
 unfolding sum_to
 exact_none f = record { sum = refl; bound = omega arith }
-
-pub exact-64 : (f : ℕ → ℤ) (k : ℕ) (s : ℤ) → Exact f k s → k ≤ 1024 → SFits w64 s
-exact-64 f k s e h = fits64 s (omega (arith, e.bound))
 
 module _ (f : ℕ → ℤ) (k : ℕ) (s : ℤ) (e : Exact f k s) (level : SFits w16 (f k)) where
   pub exact-more : Exact f (k + 1) (s +ℤ f k)
@@ -39,16 +31,10 @@ module _ (f : ℕ → ℤ) (k : ℕ) (s : ℤ) (e : Exact f k s) (level : SFits 
   pub exact-fits : k < 1024 → SFits w32 (s +ℤ f k)
   exact-fits h = fits-at w32 (s +ℤ f k) (omega (arith, e.bound, size-add s (f k), level-size (f k) level))
 
--- ---- a plane's values, by what its loop summed
+-- ---- plane 0
 pub ones : (n : ℕ) → pos n ≡ sum_to n (λ k. pos 1)
 unfolding sum_to
 ones zero = refl
 ones (suc n) =
     let e : suc n ≡ n + 1 = omega arith in
     ap pos e ∙ ap (λ (z : ℤ). z +ℤ pos 1) (ones n)
-
-pub as-plane : (p n : ℕ) (a b : List ℤ) (r : ℤ) (u : ℤ → ℤ → ℤ) → n ≡ length a → ((y z : ℤ) → plane_value p y z ≡ u y z) →
-    r ≡ wrap (sum_to n (λ k. u (at a k) (at b k))) → r ≡ wrap (sum_to (length a) (λ k. plane_value p (at a k) (at b k)))
-as-plane p n a b r u l h e =
-    e ∙ ap (λ (n : ℕ). wrap (sum_to n (λ k. u (at a k) (at b k)))) l
-    ∙ ap wrap (sum-cong (length a) (λ k. u (at a k) (at b k)) (λ k. plane_value p (at a k) (at b k)) (λ k k<. sym (h (at a k) (at b k))))

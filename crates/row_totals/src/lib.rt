@@ -6,9 +6,13 @@ ghost use Rattle.std.specs.Prelude.{◌≡◌, ◌≤◌, pos, ◌*ℤ◌, lengt
 ghost use Rattle.numbers.specs.Sum.{sum_to};
 ghost use Rattle.numbers.specs.Wrap.{wrap};
 ghost use Rattle.picture.specs.Picture.{plane_value};
+ghost use Rattle.picture.specs.Plane.{plane_number};
 ghost use Rattle.row_totals.specs.Asked.{TotalAsked};
 
-// The levels' sum. That of 1,024 is of 26 bits; a loop in 32 is faster than one in 64.
+use picture::Plane;
+
+// The levels' sum. That of 1,024 is of 26 bits; a loop in 32 is faster than one in 64, so this is not the loop of `products_total` with a closure.
+#[tactic(auto, using(crate::proofs::Totals::exact_none))]
 fn levels_total(levels: &[i16]) -> i64
     requires { length levels.now ≤ 1024 }
     ensures { result ≡ sum_to (length levels.now) (λ k. get_or levels.now k (pos 0)) }
@@ -21,6 +25,7 @@ fn levels_total(levels: &[i16]) -> i64
 }
 
 // The sum of products of levels; wrapped, so that no bound is asked of them.
+#[tactic(auto, using(numbers::proofs::Running::running_none))]
 fn products_total(a: &[i16], b: &[i16]) -> i64
     requires { length b.now ≡ length a.now }
     ensures { result ≡ wrap (sum_to (length a.now) (λ k. get_or a.now k (pos 0) *ℤ get_or b.now k (pos 0))) }
@@ -33,24 +38,17 @@ fn products_total(a: &[i16], b: &[i16]) -> i64
 }
 
 // The sum of the plane's values: a has the levels of f, and b those of g.
-pub fn total(plane: u32, a: &[i16], b: &[i16]) -> i64
+#[tactic(auto, unfolding(picture::specs::Picture::plane_value))]
+pub fn total(plane: Plane, a: &[i16], b: &[i16]) -> i64
     requires { TotalAsked a.now b.now }
-    ensures { result ≡ wrap (sum_to (length a.now) (λ k. plane_value plane (get_or a.now k (pos 0)) (get_or b.now k (pos 0)))) }
+    ensures { result ≡ wrap (sum_to (length a.now) (λ k. plane_value (plane_number plane) (get_or a.now k (pos 0)) (get_or b.now k (pos 0)))) }
 {
-    if plane == 0 {
-        return a.len() as i64;
+    match plane {
+        Plane::One => a.len() as i64,
+        Plane::F => levels_total(a),
+        Plane::G => levels_total(b),
+        Plane::FSquared => products_total(a, a),
+        Plane::GSquared => products_total(b, b),
+        Plane::Product => products_total(a, b),
     }
-    if plane == 1 {
-        return levels_total(a);
-    }
-    if plane == 2 {
-        return levels_total(b);
-    }
-    if plane == 3 {
-        return products_total(a, a);
-    }
-    if plane == 4 {
-        return products_total(b, b);
-    }
-    products_total(a, b)
 }

@@ -3,21 +3,39 @@
 use mathlib.Core.Path.{◌≡◌, sym, ◌∙◌, ap, subst}
 use mathlib.Core.Bool.{false}
 use mathlib.Core.List.{List}
-use mathlib.Core.Option.{some}
+use mathlib.Core.Option.{Option, none, some}
 use Prim.Native.Nat.{ℕ, ◌+◌, ◌-◌, ◌*◌, ◌%◌, ◌≤◌, ◌<◌}
 use native.Mathlib.Omega.{arith}
+use native.Mathlib.Nat.{add-mod_right}
+use native.Mathlib.Decide.{dec_lt}
 use lib.IntN.{ℤ}
 use Rattle.picture.specs.declared.Cell.{Cell}
 use Rattle.picture.specs.Size.{cell}
 use Rattle.picture.specs.Picture.{Inputs}
-use Rattle.steps.specs.Asked.{Checked}
+use Rattle.picture.proofs.Found.{Checked}
 use Rattle.statistics.specs.SixSums.{on_plane, impossible}
 use Rattle.smoothed.specs.Steady.{find_cell}
-use Rattle.blocks.specs.Blocks.{ready, rows_in, Block}
-use Rattle.blocks.proofs.RowSums.{next_start}
-use Rattle.hearing.specs.Hearing.{sums_at, steady_in, FirstCell}
+use Rattle.blocks.specs.Blocks.{ready, rows_in, Block, RowSums}
+use Rattle.blocks.proofs.RowSums.{block_of}
+use Rattle.hearing.proofs.Searching.{no_row}
+use Rattle.hearing.specs.Hearing.{sums_at, steady_in}
 use Rattle.search.proofs.Voices.{rows-possible, rows-steady}
 use Rattle.search.proofs.Searching.{steady_at, rows-passed, rows-found}
+
+-- the three blocks that begin at row i
+pub record Blocks (x : Inputs) (i : ℕ) (counts totals squares n s a : List ℤ) : Type 0 where
+  pub counted : Block (on_plane x 0) i counts n
+  pub summed : Block (on_plane x 1) i totals s
+  pub squared : Block (on_plane x 3) i squares a
+
+-- they come with the sums of their first row; y, z and q are x on the three planes, as the code has it
+pub blocks-at : (x y z q : Inputs) → y ≡ on_plane x 0 → z ≡ on_plane x 1 → q ≡ on_plane x 3 → (i : ℕ) → i % 16 ≡ 0 → (counts totals squares n s a : List ℤ) →
+    RowSums y i counts n → RowSums z i totals s → RowSums q i squares a → Blocks x i counts totals squares n s a
+blocks-at x y z q ey ez eq i start counts totals squares n s a ry rz rq = record {
+  counted = subst (λ (x : Inputs). Block x i counts n) ey (block_of y i start counts n ry);
+  summed = subst (λ (x : Inputs). Block x i totals s) ez (block_of z i start totals s rz);
+  squared = subst (λ (x : Inputs). Block x i squares a) eq (block_of q i start squares a rq);
+}
 
 module _ (x : Inputs) (c : Checked x) (i m : ℕ) (below : i < x.source.size.rows) (m-is : m ≡ rows_in x i) where
   pub count : 1 ≤ m
@@ -32,27 +50,39 @@ module _ (x : Inputs) (c : Checked x) (i m : ℕ) (below : i < x.source.size.row
   rest : x.source.size.rows - i ≡ m + (x.source.size.rows - (i + m))
   rest = omega (arith, within)
 
-  -- behind the block
-  pub start-behind : i % 16 ≡ 0 → i + m < x.source.size.rows → (i + m) % 16 ≡ 0
-  start-behind e h = ap (λ (k : ℕ). (i + k) % 16) m-is ∙ next_start x i e (omega (arith, h, m-is))
+  full : i + 16 < x.source.size.rows → m ≡ 16
+  full h = omega (arith, h, m-is)
 
-  pub ready-behind : (k : ℕ) (work block : List ℤ) → Block (on_plane x k) i work block → ready (on_plane x k) (i + m) work
-  ready-behind k work block b = subst (λ (r : ℕ). ready (on_plane x k) (i + r) work) (sym m-is) b.left
+  -- 16 rows further on
+  pub same-behind : find_cell (steady_at x) x.source.size.columns (i + m) (x.source.size.rows - (i + m)) ≡ find_cell (steady_at x) x.source.size.columns (i + 16) (x.source.size.rows - (i + 16))
+  same-behind = go (dec_lt (i + 16) x.source.size.rows)
+    where
+      go : Dec (i + 16 < x.source.size.rows) → find_cell (steady_at x) x.source.size.columns (i + m) (x.source.size.rows - (i + m)) ≡ find_cell (steady_at x) x.source.size.columns (i + 16) (x.source.size.rows - (i + 16))
+      go (yes h) = ap (λ (k : ℕ). find_cell (steady_at x) x.source.size.columns (i + k) (x.source.size.rows - (i + k))) (full h)
+      go (no h) =
+          let last : x.source.size.rows ≤ i + m = omega (arith, h, m-is) in
+          no_row (steady_at x) x.source.size.columns (i + m) x.source.size.rows last ∙ sym (no_row (steady_at x) x.source.size.columns (i + 16) x.source.size.rows (omega (arith, h)))
 
-  module _ (counts totals squares n s a : List ℤ) (counted : Block (on_plane x 0) i counts n) (summed : Block (on_plane x 1) i totals s) (squared : Block (on_plane x 3) i squares a) where
+  pub start-behind : i % 16 ≡ 0 → (i + 16) % 16 ≡ 0
+  start-behind e = add-mod_right i 16 ∙ e
+
+  pub ready-behind : (k : ℕ) (work block : List ℤ) → Block (on_plane x k) i work block → i + 16 < x.source.size.rows → ready (on_plane x k) (i + 16) work
+  ready-behind k work block b h = subst (λ (r : ℕ). ready (on_plane x k) (i + r) work) (sym m-is ∙ full h) b.left
+
+  module _ (counts totals squares n s a : List ℤ) (b : Blocks x i counts totals squares n s a) where
     pub possible : (r j : ℕ) → r < m → j < x.source.size.columns → impossible (sums_at n s a (r * x.source.size.columns + j)) ≡ false
     possible =
-        rows-possible x c i m n s a (λ r j h. counted.sums r j (omega (arith, h, m-is))) (λ r j h. summed.sums r j (omega (arith, h, m-is)))
-        (λ r j h. squared.sums r j (omega (arith, h, m-is)))
+        rows-possible x c i m n s a (λ r j h. b.counted.sums r j (omega (arith, h, m-is))) (λ r j h. b.summed.sums r j (omega (arith, h, m-is)))
+        (λ r j h. b.squared.sums r j (omega (arith, h, m-is)))
 
-    module _ (at : Cell) (first : FirstCell (steady_in x.source.size.columns n s a) m x.source.size.columns at) where
+    module _ (o : Option Cell) (first : o ≡ find_cell (steady_in x.source.size.columns n s a) x.source.size.columns 0 m) where
       same : find_cell (steady_in x.source.size.columns n s a) x.source.size.columns 0 m ≡ find_cell (λ r. steady_at x (i + r)) x.source.size.columns 0 m
       same =
-          rows-steady x c i m n s a (λ r j h. counted.sums r j (omega (arith, h, m-is))) (λ r j h. summed.sums r j (omega (arith, h, m-is)))
-          (λ r j h. squared.sums r j (omega (arith, h, m-is)))
+          rows-steady x c i m n s a (λ r j h. b.counted.sums r j (omega (arith, h, m-is))) (λ r j h. b.summed.sums r j (omega (arith, h, m-is)))
+          (λ r j h. b.squared.sums r j (omega (arith, h, m-is)))
 
-      pub in_block : at.row < m → find_cell (steady_at x) x.source.size.columns i (x.source.size.rows - i) ≡ some (cell (i + at.row) at.column)
-      in_block h = rows-found (steady_at x) x.source.size.columns i m x.source.size.rows rest at (sym same ∙ first.found h)
+      pub in_block : (at : Cell) → o ≡ some at → find_cell (steady_at x) x.source.size.columns i (x.source.size.rows - i) ≡ some (cell (i + at.row) at.column)
+      in_block at e = rows-found (steady_at x) x.source.size.columns i m x.source.size.rows rest at (sym same ∙ sym first ∙ e)
 
-      pub behind-block : m ≤ at.row → find_cell (steady_at x) x.source.size.columns i (x.source.size.rows - i) ≡ find_cell (steady_at x) x.source.size.columns (i + m) (x.source.size.rows - (i + m))
-      behind-block h = rows-passed (steady_at x) x.source.size.columns i m x.source.size.rows rest (sym same ∙ first.nowhere h)
+      pub behind-block : o ≡ none → find_cell (steady_at x) x.source.size.columns i (x.source.size.rows - i) ≡ find_cell (steady_at x) x.source.size.columns (i + m) (x.source.size.rows - (i + m))
+      behind-block e = rows-passed (steady_at x) x.source.size.columns i m x.source.size.rows rest (sym same ∙ sym first ∙ e)

@@ -10,13 +10,13 @@ use Rattle.smoothed.specs.Steady.{find_cell, first_steady}
 use Rattle.blocks.specs.Blocks.{ready}
 use Rattle.search.proofs.Searching.{steady_at}
 
--- before row i: a block begins there, or no row is left
+-- before row i, where a block begins if rows are left
 pub record Before (x : Inputs) (counts totals squares n s a : List ℤ) (i : ℕ) : Type 0 where
   pub same : find_cell (steady_at x) x.source.size.columns i (x.source.size.rows - i) ≡ first_steady x
-  pub start : i < x.source.size.rows → i % 16 ≡ 0
-  pub ready_counts : ready (on_plane x 0) i counts
-  pub ready_totals : ready (on_plane x 1) i totals
-  pub ready_squares : ready (on_plane x 3) i squares
+  pub start : i % 16 ≡ 0
+  pub ready_counts : i < x.source.size.rows → ready (on_plane x 0) i counts
+  pub ready_totals : i < x.source.size.rows → ready (on_plane x 1) i totals
+  pub ready_squares : i < x.source.size.rows → ready (on_plane x 3) i squares
   pub room_counts : length counts ≡ x.source.size.columns
   pub room_totals : length totals ≡ x.source.size.columns
   pub room_squares : length squares ≡ x.source.size.columns

@@ -1,7 +1,7 @@
 -- The search in parts: the rows from a row on, and those behind them.
 -- Assumes nothing.
 use mathlib.Core.Path.{◌≡◌, refl, ◌∙◌, ap}
-use Prim.Native.Nat.{ℕ, zero, suc, ◌+◌, ◌-◌}
+use Prim.Native.Nat.{ℕ, zero, suc, ◌+◌, ◌-◌, ◌<◌}
 use native.Mathlib.Omega.{arith}
 use mathlib.Core.Bool.{Bool}
 use mathlib.Core.Option.{Option, none, some}
@@ -33,6 +33,22 @@ parted test columns i (suc m) k =
         or_else i o (find_cell test columns (suc i) (m + k)) ≡ either (or_else i o (find_cell test columns (suc i) m)) (find_cell test columns (i + suc m) k)
     go (some j) e = refl
     go none e = e
+
+row_of : Option Cell → ℕ
+row_of none = 0
+row_of (some c) = c.row
+
+-- a cell that is found stands in one of the rows
+pub found-within : (test : ℕ → ℕ → Bool) (columns i n : ℕ) (c : Cell) → find_cell test columns i n ≡ some c → c.row < i + n
+unfolding find_cell or_else row_of
+found-within test columns i zero c e = cc
+found-within test columns i (suc n) c e = go (find_column (test i) 0 columns) (found-within test columns (suc i) n c) e
+  where
+    go : (o : Option ℕ) → (find_cell test columns (suc i) n ≡ some c → c.row < suc i + n) → or_else i o (find_cell test columns (suc i) n) ≡ some c → c.row < i + suc n
+    go (some j) h e =
+        let row : i ≡ c.row = ap row_of e in
+        omega (arith, row)
+    go none h e = let below = h e in omega (arith, below)
 
 -- ---- rows counted from row i on
 abbrev moved : ℕ → Option Cell → Option Cell

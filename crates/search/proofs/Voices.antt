@@ -11,7 +11,7 @@ use lib.Signed.{≤ℤ_refl}
 use Rattle.picture.specs.Refusal.{Outcome, refused, answered}
 use Rattle.picture.specs.Picture.{Inputs}
 use Rattle.picture.specs.Direct.{direct_sum}
-use Rattle.steps.specs.Asked.{Checked}
+use Rattle.picture.proofs.Found.{Checked}
 use Rattle.statistics.specs.declared.Sums.{Sums}
 use Rattle.statistics.specs.SixSums.{on_plane, six_sums, impossible}
 use Rattle.statistics.specs.Moments.{mean, deviation}

@@ -2,11 +2,9 @@
 -- Assumes nothing.
 use Rattle.std.specs.Prelude.{◌≡◌, ◌*◌, List, length, ℤ}
 use Rattle.picture.specs.Picture.{Inputs}
-use Rattle.steps.specs.Asked.{Checked}
 
--- checked inputs, three work areas and room for three blocks of sums
+-- three work areas and room for three blocks of sums
 pub record SearchRowsAsked (x : Inputs) (counts totals squares n s a : List ℤ) : Type 0 where
-  pub inputs : Checked x
   pub room_counts : length counts ≡ x.source.size.columns
   pub room_totals : length totals ≡ x.source.size.columns
   pub room_squares : length squares ≡ x.source.size.columns

@@ -3,21 +3,21 @@
 use mathlib.Core.Path.{◌≡◌, refl, sym, ◌∙◌, ap}
 use Prim.Native.Nat.{ℕ, zero, suc, ◌+◌, ◌-◌, ◌*◌}
 use native.Mathlib.Omega.{arith}
-use mathlib.Core.Bool.{Bool, true, false, not, ◌||◌}
+use mathlib.Core.Bool.{Bool, not, ◌||◌}
 use mathlib.Core.List.{List, [], ◌∷◌, ◌++◌, append_assoc, append-nil}
-use mathlib.Core.Option.{Option, none, some}
-use lib.Dec.{T, ltb, eqb, eqb→eq}
+use mathlib.Core.Option.{none, some}
+use lib.Dec.{ltb, eqb, eqb→eq}
 use lib.ListN.{length}
-use lib.IntN.{ℤ, pos}
+use lib.IntN.{ℤ}
 use Rattle.numbers.proofs.Grids.{length-tabulate}
-use Rattle.picture.specs.Refusal.{Outcome, refused, answered, refusal, numbers_of}
+use Rattle.picture.specs.Refusal.{refused, answered, refusal, numbers_of}
 use Rattle.picture.specs.declared.Size.{Size}
 use Rattle.picture.specs.Window.{Shape}
 use Rattle.picture.specs.Picture.{Inputs}
 use Rattle.picture.specs.Conditions.{input_checks, check7, check8, accepted}
 use Rattle.numbers.proofs.Tests.{of-not}
 use Rattle.picture.proofs.Refusals.{pass_all, none-head, none_rest}
-use Rattle.session.specs.Rows.{work_value, work_after, output_row, Strip, strip, RowOutcome, row_checks, row_result, row_call}
+use Rattle.session.specs.Rows.{work_value, work_after, output_row, strip, row_checks, row_result, row_call}
 
 -- "Only the number comes back; every lent buffer and the position keep their bytes."
 pub refused-keeps : (x : Inputs) (position request : ℕ) (work output : List ℤ) (k : ℕ) → refusal (row_checks x position request work output) ≡ some k →

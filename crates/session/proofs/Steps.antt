@@ -1,19 +1,19 @@
 -- From a fresh start the work area holds what the paper says, and the output rows are the window sums.
 -- Assumes nothing.
 use mathlib.Core.Path.{◌≡◌, refl, sym, ◌∙◌, ap, ap₂}
-use Prim.Native.Nat.{ℕ, zero, suc, ◌+◌, ◌-◌, ◌*◌, ◌^◌, ◌≤◌, ◌<◌}
+use Prim.Native.Nat.{ℕ, zero, suc, ◌+◌, ◌^◌, ◌≤◌, ◌<◌}
 use native.Mathlib.Omega.{arith}
 use native.Mathlib.Nat.{mul-le-mul}
 use mathlib.Core.Bool.{Bool, true, false}
-use mathlib.Core.List.{List, [], ◌∷◌, ◌++◌}
-use lib.Dec.{leb, ltb}
-use lib.ListN.{length, get_or}
-use lib.IntN.{ℤ, pos, nat_abs, ◌+ℤ◌, ◌-ℤ◌}
+use mathlib.Core.List.{List, ◌++◌}
+use lib.Dec.{leb}
+use lib.ListN.{get_or}
+use lib.IntN.{ℤ, pos, nat_abs, ◌+ℤ◌}
 use Rattle.numbers.specs.Sum.{sum_to, pick}
 use Rattle.numbers.specs.Grid.{tabulate, rows_from}
 use Rattle.numbers.specs.Wrap.{wrap}
 use Rattle.numbers.proofs.Sums.{sum-add, sum-cong, near_step, sum_bound, pick-bound}
-use Rattle.numbers.proofs.Grids.{tabulate-cong, get_d_tabulate, length-tabulate, length-rows}
+use Rattle.numbers.proofs.Grids.{tabulate-cong, get_d_tabulate}
 use Rattle.numbers.proofs.Wraps.{wrap-small}
 use Rattle.picture.specs.Window.{Shape, rectangle, slanted, width, depth}
 use Rattle.picture.specs.declared.Size.{Size}

@@ -1,13 +1,12 @@
 -- "Row session": the work area's recurrence, the output rows, and the call.
 -- Assumes nothing.
-use Rattle.std.specs.Prelude.{◌≡◌, ℕ, zero, suc, ◌+◌, ◌*◌, ◌-◌, Bool, true, false, ◌&&◌, List, [], ◌∷◌, ◌++◌, leb, ltb, length, get_or, ℤ, pos, ◌+ℤ◌, ◌-ℤ◌}
+use Rattle.std.specs.Prelude.{◌≡◌, ℕ, zero, suc, ◌+◌, ◌*◌, ◌-◌, List, [], ◌∷◌, ◌++◌, leb, ltb, length, get_or, ℤ, pos, ◌+ℤ◌, ◌-ℤ◌}
 use Rattle.std.proofs.Math.Option.{Option, none, some}
 use Rattle.numbers.specs.Sum.{sum_to, pick}
 use Rattle.numbers.specs.Grid.{tabulate}
 use Rattle.numbers.specs.Wrap.{wrap}
 use Rattle.picture.specs.Refusal.{Outcome, Check, refused, answered, refusal}
-use Rattle.picture.specs.declared.Window.{Window}
-use Rattle.picture.specs.Window.{Shape, rectangle, slanted, shape_of, height, reach, width, depth}
+use Rattle.picture.specs.Window.{Shape, rectangle, slanted, shape_of, width, depth}
 use Rattle.picture.specs.declared.Size.{Size}
 use Rattle.picture.specs.Size.{row_gap, column_gap}
 use Rattle.picture.specs.Picture.{Inputs, plane_at}

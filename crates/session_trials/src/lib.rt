@@ -130,8 +130,7 @@ fn granted(given: Given, fresh: bool, request: usize, before: &Stand) -> Stand {
     let begun = Begun {
         given,
         area: &before.work,
-        fresh,
-        position,
+        foreign: (!fresh).then_some(position),
     };
     for (j, number) in after.work.iter_mut().enumerate().take(c.columns) {
         *number = begun.work(end.saturating_sub(1), j);

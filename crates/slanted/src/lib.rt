@@ -1,5 +1,4 @@
 // A diamond's or hexagon's window sums from one row to the next: the cells on its lower edge enter, and those on its upper edge leave.
-// For callers that have checked their inputs.
 #![tactic(auto)]
 
 ghost use Rattle.std.specs.Prelude.{◌≡◌, pos, ◌+ℤ◌, get_or, suc, min};
@@ -7,19 +6,19 @@ ghost use Rattle.numbers.specs.Grid.{tabulate};
 ghost use Rattle.numbers.specs.Wrap.{wrap};
 ghost use Rattle.picture.specs.Window.{shape_of, width};
 ghost use Rattle.picture.specs.Picture.{plane_at};
-ghost use Rattle.picture.specs.Given.{source_of, inputs_of};
+ghost use Rattle.picture.specs.Checked.{given, checked_source, checked_inputs};
 ghost use Rattle.slanted.specs.Edges.{edge_change, edges_to};
 ghost use Rattle.slanted.specs.Asked.{EdgeAsked};
 ghost use Rattle.steps.specs.Asked.{StepAsked};
 
-use picture::Inputs;
+use picture::CheckedInputs;
 use steps::step;
 
 // From row i to i+1, the cells in the columns at distance c, which is at least 1, from each column: those on its right are added
 // to the columns before, and those on its left to the columns behind.
-fn edge(inputs: &Inputs<'_>, i: usize, c: usize, work: &mut [i64], row: &mut [i64])
-    requires { EdgeAsked (inputs_of inputs.now) i c work.old row.old }
-    ensures { work.new ≡ tabulate inputs.now.source.size.columns (λ j. wrap (get_or work.old j (pos 0) +ℤ edge_change inputs.now.source.size (plane_at (source_of inputs.now.source)) (shape_of inputs.now.window) i c j)) }
+fn edge(inputs: &CheckedInputs<'_>, i: usize, c: usize, work: &mut [i64], row: &mut [i64])
+    requires { EdgeAsked (checked_inputs inputs.now) i c work.old row.old }
+    ensures { work.new ≡ tabulate inputs.now.source.size.columns (λ j. wrap (get_or work.old j (pos 0) +ℤ edge_change inputs.now.source.size (plane_at (checked_source inputs.now.source)) (shape_of (given inputs.now.window)) i c j)) }
 {
     let columns = inputs.source.size.columns;
     let zero = 0;
@@ -30,9 +29,9 @@ fn edge(inputs: &Inputs<'_>, i: usize, c: usize, work: &mut [i64], row: &mut [i6
 }
 
 // From row i to i+1.
-pub fn next(inputs: &Inputs<'_>, i: usize, work: &mut [i64], row: &mut [i64])
-    requires { StepAsked (inputs_of inputs.now) i work.old row.old }
-    ensures { work.new ≡ edges_to inputs.now.source.size (plane_at (source_of inputs.now.source)) (shape_of inputs.now.window) i work.old (min (suc (width (shape_of inputs.now.window))) inputs.now.source.size.columns) }
+pub fn next(inputs: &CheckedInputs<'_>, i: usize, work: &mut [i64], row: &mut [i64])
+    requires { StepAsked (checked_inputs inputs.now) i work.old row.old }
+    ensures { work.new ≡ edges_to inputs.now.source.size (plane_at (checked_source inputs.now.source)) (shape_of (given inputs.now.window)) i work.old (min (suc (width (shape_of (given inputs.now.window)))) inputs.now.source.size.columns) }
 {
     let columns = inputs.source.size.columns;
     let end = clip::high(0, shape::width(inputs.window), columns);

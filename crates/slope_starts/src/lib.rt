@@ -1,19 +1,20 @@
 // The slopes of a diamond's or hexagon's edges on the row where a call begins.
-// For callers that have checked their inputs.
 #![tactic(auto)]
 
 ghost use Rattle.std.specs.Prelude.{◌≡◌, ◌≤◌, length, map};
 ghost use Rattle.numbers.specs.Grid.{tabulate};
-ghost use Rattle.picture.specs.Given.{source_of};
+ghost use Rattle.picture.specs.Plane.{plane_number};
+ghost use Rattle.picture.specs.Checked.{checked_source};
 ghost use Rattle.kept_slopes.specs.Edges.{StartAsked, Started, across_slopes, AcrossAsked};
 
 use leans::Slope;
 use padding::PlaneValue;
-use picture::Source;
+use picture::CheckedSource;
 
 // The slopes of row i, h cells of each.
+#[tactic(auto, unfolding(picture::specs::Size::size_legal))]
 pub fn start<S: Slope>(
-    source: &Source<'_>,
+    source: &CheckedSource<'_>,
     i: usize,
     h: usize,
     w: usize,
@@ -22,8 +23,8 @@ pub fn start<S: Slope>(
     rises: &mut [S; 1536],
     falls: &mut [S; 1536],
 )
-    requires { S.Value.holds source.now.plane × StartAsked (source_of source.now) i h w (map S.Value.value a.old) (map S.Value.value b.old) (map S.sum rises.old) (map S.sum falls.old) }
-    ensures { Started (source_of source.now) i h w (map S.Value.value a.new) (map S.Value.value b.new) (map S.sum rises.new) (map S.sum falls.new) }
+    requires { S.Value.holds (plane_number source.now.plane) × StartAsked (checked_source source.now) i h w (map S.Value.value a.old) (map S.Value.value b.old) (map S.sum rises.old) (map S.sum falls.old) }
+    ensures { Started (checked_source source.now) i h w (map S.Value.value a.new) (map S.Value.value b.new) (map S.sum rises.new) (map S.sum falls.new) }
 {
     let n = source.size.columns + w;
     for t in 0..h {

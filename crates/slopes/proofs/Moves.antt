@@ -102,7 +102,7 @@ module _ (Q : ℕ → ℕ → ℤ) (w : ℕ) where
     falling_bound n y x = sum_bound n (2 * M) _ (λ t t<. omega (arith, size-sub (Q (y + 1 + t) (x + t - w)) (Q (y - t) (x + w - t)), small (y + 1 + t) (x + t - w), small (y - t) (x + w - t)))
 
 -- ---- a plane among zeros
-pick-zero : (b : Bool) → pick b (pos 0) ≡ pos 0
+pub pick-zero : (b : Bool) → pick b (pos 0) ≡ pos 0
 unfolding pick
 pick-zero true = refl
 pick-zero false = refl

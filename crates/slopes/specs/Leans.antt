@@ -1,10 +1,8 @@
 -- Rows of a plane among zeros, and the slopes of a window's edges as the code keeps them: 1536 numbers each, the picture's column 0 at place 256.
 -- Assumes nothing.
-use Rattle.std.specs.Prelude.{◌≡◌, ℕ, ◌+◌, ◌≤◌, ◌<◌, List, T, length, get_or, ℤ, pos, ◌+ℤ◌, ◌-ℤ◌}
+use Rattle.std.specs.Prelude.{◌≡◌, ℕ, ◌+◌, ◌≤◌, ◌<◌, List, length, get_or, ℤ, pos, ◌+ℤ◌, ◌-ℤ◌}
 use Rattle.std.specs.Int.Signed.{mag}
 use Rattle.numbers.specs.Wrap.{wrap}
-use Rattle.picture.specs.declared.Size.{Size}
-use Rattle.picture.specs.Size.{size_legal, cells}
 
 -- 1536 numbers that are 0 but for those at the picture's columns
 pub record Blank (buf : List ℤ) (columns : ℕ) : Type 0 where
@@ -44,20 +42,6 @@ taken rising falling p q work j = wrap (get_or work j (pos 0) +ℤ (get_or risin
 -- the same when a number of a has come in too, and one of c has gone
 abbrev pub taken_tips : (a c rising falling : List ℤ) → (p q : ℕ) → List ℤ → ℕ → ℤ
 taken_tips a c rising falling p q work j = wrap (get_or work j (pos 0) +ℤ ((get_or a (j + 256) (pos 0) -ℤ get_or c (j + 256) (pos 0)) +ℤ (get_or rising (j + p) (pos 0) +ℤ get_or falling (j + q) (pos 0))))
-
--- pictures of a legal size, and a row of zeros around the place for the picture's row
-pub record LoadAsked (z : Size) (f g buf : List ℤ) : Type 0 where
-  pub size : T (size_legal z)
-  pub length_f : length f ≡ cells z
-  pub length_g : length g ≡ cells z
-  pub blank : Blank buf z.columns
-
--- the same with room for the picture's row alone
-pub record RowAsked (z : Size) (f g out : List ℤ) : Type 0 where
-  pub size : T (size_legal z)
-  pub length_f : length f ≡ cells z
-  pub length_g : length g ≡ cells z
-  pub room : length out ≡ z.columns
 
 -- n places within two rows and the sums, and sums of at most m
 pub record GatherAsked (m : ℕ) (a b : List ℤ) (n s pa pb : ℕ) (sums : List ℤ) : Type 0 where

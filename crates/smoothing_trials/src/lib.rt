@@ -16,7 +16,7 @@ fn mean(given: Given, i: usize, j: usize) -> i64 {
     moments::mean(n, s)
 }
 
-// One picture smoothed, and compared at every cell.
+// One picture smoothed, and compared at every cell. The output is an array as long as those of the pictures: the trials have no heap.
 fn smooth(given: Given, t: Tally) -> Tally {
     let c = given.case;
     let cells = c.cells().min(32768);

@@ -1,22 +1,21 @@
 -- The starred cases hold, as a whole: by computing the definitions, and for the empty shift from the sums of no cell.
 -- Assumes nothing.
-use mathlib.Core.Path.{◌≡◌, refl, sym, ◌∙◌, ap}
+use mathlib.Core.Path.{◌≡◌, refl, ◌∙◌, ap}
 use Prim.Native.Nat.{ℕ, zero, suc, ◌<◌}
 use native.Mathlib.Omega.{arith}
 use mathlib.Core.Bool.{Bool, true, false}
-use mathlib.Core.List.{List, [], ◌∷◌}
-use mathlib.Core.Option.{Option, none, some}
-use lib.IntN.{ℤ, pos, negsuc}
+use mathlib.Core.Option.{none}
+use lib.IntN.{ℤ, pos}
 use Rattle.numbers.specs.Sum.{sum_to, pick}
 use Rattle.numbers.specs.Grid.{tabulate}
 use Rattle.numbers.specs.Wrap.{wrap}
 use Rattle.numbers.specs.Round.{floor_div, nearest, root_step, root_in, root, root_over}
 use Rattle.numbers.proofs.Sums.{sum-none}
-use Rattle.picture.specs.Refusal.{Outcome, refused, answered, refusal, outcome}
+use Rattle.picture.specs.Refusal.{answered, refusal, outcome}
 use Rattle.picture.specs.declared.Window.{Window}
 use Rattle.picture.specs.Window.{rectangle_legal, diamond_legal, hexagon_legal, window_legal, shape_of, height, reach, width, depth, cells_beyond, cell_count, holds}
 use Rattle.picture.specs.Size.{size_legal, in_range}
-use Rattle.picture.specs.Picture.{shift_legal, counts, plane_value, plane_at, level_of, other_of}
+use Rattle.picture.specs.Picture.{shift_legal, counts, plane_value, plane_at}
 use Rattle.picture.specs.Direct.{window_sum, direct_sum, direct_call}
 use Rattle.session.specs.Rows.{column_sum, cell_below, cell_above, enter_leave, work_value, work_change, work_after, output_row, strip, row_result, row_call}
 use Rattle.statistics.specs.declared.Sums.{Sums}

@@ -1,13 +1,12 @@
 -- "Sums to try": the starred cases of document 01, gathered into one list, each as an equation between the definitions and the paper's numbers.
 -- Assumes nothing.
-use Rattle.std.specs.Prelude.{◌≡◌, ℕ, ◌<◌, List, [], ◌∷◌, ◌++◌, ℤ, pos, negsuc}
-use Rattle.std.proofs.Math.Option.{Option, none, some}
+use Rattle.std.specs.Prelude.{◌≡◌, ℕ, List, [], ◌∷◌, ◌++◌, ℤ, pos, negsuc}
+use Rattle.std.proofs.Math.Option.{none, some}
 use Rattle.picture.specs.Refusal.{Outcome, refused, answered}
 use Rattle.picture.specs.declared.Window.{Window}
 use Rattle.picture.specs.Window.{window, shape_of, cell_count}
 use Rattle.picture.specs.declared.Size.{Size}
 use Rattle.picture.specs.Size.{size}
-use Rattle.picture.specs.declared.Shift.{Shift}
 use Rattle.picture.specs.Picture.{shift, no_shift, Inputs, inputs}
 use Rattle.picture.specs.Direct.{direct_call}
 use Rattle.session.specs.Rows.{RowOutcome, row_call}

@@ -7,17 +7,17 @@ use Prim.Native.Nat.{ℕ}
 use native.Mathlib.Omega.{arith}
 use borrow.Author.Tests.{eq-eqb, ne_eqb, eqb-true, eqb-false}
 use lib.Dec.{eqb}
-use lib.IntN.{nat_abs}
-use Rattle.picture.specs.Refusal.{Outcome, refused, answered}
+use Rattle.picture.specs.Refusal.{refused, answered}
 use Rattle.statistics.specs.declared.Sums.{Sums}
 use Rattle.statistics.specs.declared.CentralMoments.{CentralMoments}
-use Rattle.statistics.specs.SixSums.{Vf, Vg, covariance, impossible, unless9, count, no_cell}
+use Rattle.statistics.specs.SixSums.{impossible, unless9, count, no_cell}
 use Rattle.statistics.specs.Moments.{unless_empty}
 use Rattle.statistics.specs.Central.{central_moments, central_call}
 use Rattle.std.specs.Prelude as code
 use Rattle.std.specs.Prelude.{Result, Ok, Err, IsErrAnd}
 use Rattle.picture.specs.declared.Refusal.{Refusal}
-use Rattle.picture.specs.Answers.{number, option_of}
+use Rattle.picture.specs.Answers.{number, optional_outcome}
+use Rattle.picture.proofs.Refusals.{optional-refusal}
 use Rattle.statistics.specs.declared.Voice as declared
 use Rattle.statistics.specs.declared.Coefficient as correlation
 use Rattle.statistics.specs.Voice.{Voice}
@@ -64,25 +64,13 @@ pub record NoCell (z : Sums) : Type 0 where
   pub possible : Possible z
   pub is : count z ≡ 0
 
-pub passes_on : {A : Type 0} (z : Sums) (n : ℕ) (r : A) → Impossible z n → refused n ≡ unless9 z r
-passes_on z n r f = ap refused f.is ∙ sym (refuses z r f.holds)
-
--- an `Err` that the code passes on
-pub voice-refusal : (r : Result declared.Voice Refusal) (e : Refusal) (o : Outcome Voice) → IsErrAnd r (λ y. y ≡ e) → refused (number e) ≡ o → voice_outcome r ≡ o
-voice-refusal (Ok a) e o q h = absurd q
-voice-refusal (Err y) e o q h = rw q h
-
-pub coefficient-refusal : (r : Result correlation.Coefficient Refusal) (e : Refusal) (o : Outcome Coefficient) → IsErrAnd r (λ y. y ≡ e) → refused (number e) ≡ o → coefficient_outcome r ≡ o
-coefficient-refusal (Ok a) e o q h = absurd q
-coefficient-refusal (Err y) e o q h = rw q h
-
 -- the sums are possible, with N not 0, and m is theirs
 pub record Taken (z : Sums) (m : CentralMoments) : Type 0 where
   pub possible : Possible z
   pub some_cell : count z ≡ 0 → ⊥
   pub is : m ≡ central_moments z
 
-pub refused-tells : (z : Sums) (n : ℕ) → refused n ≡ central_call z → Impossible z n
+refused-tells : (z : Sums) (n : ℕ) → refused n ≡ central_call z → Impossible z n
 refused-tells z n e = go (case-of z) e
   where
     go : Case z → refused n ≡ central_call z → Impossible z n
@@ -90,34 +78,41 @@ refused-tells z n e = go (case-of z) e
     go (empty p k c) e = never (cc)
     go (given p k c) e = never (cc)
 
-pub empty-tells : (z : Sums) (r : code.Option CentralMoments) → answered (option_of r) ≡ central_call z → r ≡ code.None → NoCell z
-empty-tells z r e q = go (case-of z) (sym (ap (λ (x : code.Option CentralMoments). answered (option_of x)) q) ∙ e)
+pub empty-tells : (z : Sums) → answered none ≡ central_call z → NoCell z
+empty-tells z e = go (case-of z) e
   where
     go : Case z → answered none ≡ central_call z → NoCell z
     go (refusing i c) e = never (cc)
     go (empty p k c) e = record { possible = p; is = k }
     go (given p k c) e = never (cc)
 
-pub given-tells : (z : Sums) (r : code.Option CentralMoments) (m : CentralMoments) → answered (option_of r) ≡ central_call z → r ≡ code.Some m → Taken z m
-given-tells z r m e q = go (case-of z) (sym (ap (λ (x : code.Option CentralMoments). answered (option_of x)) q) ∙ e)
+pub given-tells : (z : Sums) (m : CentralMoments) → answered (some m) ≡ central_call z → Taken z m
+given-tells z m e = go (case-of z) e
   where
     go : Case z → answered (some m) ≡ central_call z → Taken z m
     go (refusing i c) e = never (cc)
     go (empty p k c) e = never (cc)
     go (given p k c) e = record { possible = p; some_cell = k; is = cc }
 
-module _ (z : Sums) (m : CentralMoments) (t : Taken z m) where
-  pub count-is : m.count ≡ count z
-  count-is = ap (λ (x : CentralMoments). x.count) t.is
+-- ---- what a statistic that goes on from it answers
+-- the refusal
+pub refused-too : {A : Type 0} (z : Sums) (n : ℕ) (r : A) → refused n ≡ central_call z → refused n ≡ unless9 z r
+refused-too z n r e = let f = refused-tells z n e in ap refused f.is ∙ sym (refuses z r f.holds)
 
-  pub count-some : m.count ≡ 0 → ⊥
-  count-some e = t.some_cell (sym count-is ∙ e)
+pub optional-refused : {A : Type 0} (z : Sums) (r : Result (code.Option A) Refusal) (e : Refusal) (v : Option A) → IsErrAnd r (λ y. y ≡ e) → refused (number e) ≡ central_call z → optional_outcome r ≡ unless9 z v
+optional-refused z r e v q h = optional-refusal r e (unless9 z v) q (refused-too z (number e) v h)
 
-  pub vf-is : m.vf ≡ nat_abs (Vf z)
-  vf-is = ap (λ (x : CentralMoments). x.vf) t.is
+pub voice-refused : (z : Sums) (r : Result declared.Voice Refusal) (e : Refusal) (v : Voice) → IsErrAnd r (λ y. y ≡ e) → refused (number e) ≡ central_call z → voice_outcome r ≡ unless9 z v
+voice-refused z (Ok a) e v q h = absurd q
+voice-refused z (Err y) e v q h = rw q (refused-too z (number e) v h)
 
-  pub vg-is : m.vg ≡ nat_abs (Vg z)
-  vg-is = ap (λ (x : CentralMoments). x.vg) t.is
+pub coefficient-refused : (z : Sums) (r : Result correlation.Coefficient Refusal) (e : Refusal) (v : Coefficient) → IsErrAnd r (λ y. y ≡ e) → refused (number e) ≡ central_call z → coefficient_outcome r ≡ unless9 z v
+coefficient-refused z (Ok a) e v q h = absurd q
+coefficient-refused z (Err y) e v q h = rw q (refused-too z (number e) v h)
 
-  pub c-is : m.c ≡ covariance z
-  c-is = ap (λ (x : CentralMoments). x.c) t.is
+-- Empty, and a value
+pub empty-too : {A : Type 0} (z : Sums) (r : A) → answered none ≡ central_call z → answered none ≡ unless9 z (unless_empty z r)
+empty-too z r e = let f = empty-tells z e in answers-empty z r f.possible f.is
+
+pub given-too : {A : Type 0} (z : Sums) (m : CentralMoments) (v r : A) → answered (some m) ≡ central_call z → v ≡ r → answered (some v) ≡ unless9 z (unless_empty z r)
+given-too {A} z m v r e q = let t = given-tells z m e in ap (λ (x : A). answered (some x)) q ∙ answers-some z r t.possible t.some_cell

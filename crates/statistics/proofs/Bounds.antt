@@ -111,13 +111,6 @@ bounded_of z b =
     few (pos n) h k = leℤ (pos n) (pos 65025) (omega arith)
     few (negsuc n) h k = absurd h.le
 
-pub not-bounded : (z : Sums) → (Bounded z → ⊥) → unbounded z ≡ true
-not-bounded z f = go (unbounded z) refl
-  where
-    go : (b : Bool) → unbounded z ≡ b → b ≡ true
-    go true e = refl
-    go false e = absurd (f (bounded-has z e))
-
 -- ---- the whole of 9
 pub possible-has : (z : Sums) → impossible z ≡ false → Possible z
 unfolding impossible

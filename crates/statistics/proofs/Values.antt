@@ -178,7 +178,7 @@ magnitude-bound z p h =
     root-over-bound (1000000 * (nat_abs (covariance z) * nat_abs (covariance z))) (nat_abs (Vf z) * nat_abs (Vg z)) 1000 h
     (omega (arith, mul-le-mul_left 1000000 (schwarz-has z p)))
 
-size-signed : (c : ℤ) (n : ℕ) → nat_abs (signed c n) ≡ n
+pub size-signed : (c : ℤ) (n : ℕ) → nat_abs (signed c n) ≡ n
 unfolding signed
 size-signed (pos c) n = refl
 size-signed (negsuc c) n = size-neg (pos n)

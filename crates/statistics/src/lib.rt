@@ -28,7 +28,7 @@ pub struct Grain {
     pub spread: f32,
 }
 
-// "Empty if N = 0; Steady with a level if Vf = 0; otherwise Grainy with a level and a spread."
+// "Empty if N = 0; Steady with a level if Vf = 0; otherwise Grainy with a level and a spread." Three cases, so no Option.
 #[derive(Clone, Copy)]
 pub enum Voice {
     Empty,
@@ -36,7 +36,7 @@ pub enum Voice {
     Grainy(Grain),
 }
 
-// "Empty if N = 0; Flat if Vf or Vg is 0; otherwise the sign of C times the largest whole c"
+// "Empty if N = 0; Flat if Vf or Vg is 0; otherwise the sign of C times the largest whole c": three cases too.
 #[derive(Clone, Copy)]
 pub enum Coefficient {
     Empty,

@@ -49,7 +49,7 @@ pub fn number(answer: Result<Option<i64>, Refusal>) -> i64 {
     answer.ok().flatten().unwrap_or(0)
 }
 
-// The coefficient of an answer, 0 where it has none.
+// The coefficient of an answer, 0 where it has none: a number and no Option, since every answer has its part in the checksum.
 pub fn value(answer: Result<Coefficient, Refusal>) -> i64 {
     match answer {
         Ok(Coefficient::Value(value)) => value,

@@ -1,5 +1,4 @@
 // From one row to the next: the row that enters a window's sums and the one that leaves.
-// For callers that have checked their inputs.
 #![tactic(auto)]
 
 pub mod step; // step.rt: from one row to the next at one half height

@@ -1,20 +1,19 @@
 // From one row to the next at one half height: the row of a plane that enters, and the row that leaves.
-// For callers that have checked their inputs.
 ghost use Rattle.std.specs.Prelude.{◌≡◌, pos, ◌+ℤ◌, length, get_or};
 ghost use Rattle.numbers.specs.Grid.{tabulate};
 ghost use Rattle.numbers.specs.Wrap.{wrap};
 ghost use Rattle.picture.specs.Picture.{plane_at};
-ghost use Rattle.picture.specs.Given.{source_of};
+ghost use Rattle.picture.specs.Checked.{checked_source};
 ghost use Rattle.session.specs.Rows.{enter_leave};
 ghost use Rattle.steps.specs.Asked.{RowAsked};
 
 use exchange_loops::add_each;
-use picture::Source;
+use picture::CheckedSource;
 
 // From row i to i+1, at half height d: the row d rows below enters the sums, and the row d rows above leaves them.
-pub fn add_gain(source: &Source<'_>, i: usize, d: usize, sums: &mut [i64])
-    requires { RowAsked source.now.size source.now.f.now source.now.g.now i d sums.old }
-    ensures { sums.new ≡ tabulate source.now.size.columns (λ j. wrap (get_or sums.old j (pos 0) +ℤ enter_leave source.now.size (plane_at (source_of source.now)) i d j)) }
+pub fn add_gain(source: &CheckedSource<'_>, i: usize, d: usize, sums: &mut [i64])
+    requires { RowAsked source.now.size i d sums.old }
+    ensures { sums.new ≡ tabulate source.now.size.columns (λ j. wrap (get_or sums.old j (pos 0) +ℤ enter_leave source.now.size (plane_at (checked_source source.now)) i d j)) }
 {
     let rows = source.size.rows;
     let enter = i + 1 + d;
@@ -27,9 +26,9 @@ pub fn add_gain(source: &Source<'_>, i: usize, d: usize, sums: &mut [i64])
 }
 
 // The same alone: in `row` the cells that enter less those that leave.
-pub fn gain(source: &Source<'_>, i: usize, d: usize, row: &mut [i64])
-    requires { RowAsked source.now.size source.now.f.now source.now.g.now i d row.old }
-    ensures { row.new ≡ tabulate source.now.size.columns (λ j. wrap (enter_leave source.now.size (plane_at (source_of source.now)) i d j)) }
+pub fn gain(source: &CheckedSource<'_>, i: usize, d: usize, row: &mut [i64])
+    requires { RowAsked source.now.size i d row.old }
+    ensures { row.new ≡ tabulate source.now.size.columns (λ j. wrap (enter_leave source.now.size (plane_at (checked_source source.now)) i d j)) }
 {
     plane_values::fill(row, 0);
     add_gain(source, i, d, row);

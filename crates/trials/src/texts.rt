@@ -5,7 +5,7 @@ use trial_tools::tally::Tally;
 // A text, and the output that it is to give.
 type Pair = (&'static [u8], &'static [u8]);
 
-// The output of a text: its length, and its bytes.
+// The output of a text: its length, and its bytes. An array, as all room here: the trials have no heap.
 fn shown(text: &[u8], expected: &[u8], t: Tally) -> Tally {
     let mut out = [0u8; 28672];
     let n = panel_text::render(text, &mut out);
@@ -92,7 +92,7 @@ fn spaced(front: [u8; 11]) -> [u8; 65537] {
     text
 }
 
-// Such a text up to 65,536 bytes, and up to 65,537: "longer input, 10".
+// Such a text up to 65,536 bytes, and up to 65,537: "longer input, 10". The shorter one is the front of the same array.
 fn long(front: [u8; 11], expected: &[u8], t: Tally) -> Tally {
     let text = spaced(front);
     let (most, _) = text.split_at(65536);

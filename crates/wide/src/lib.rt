@@ -1,4 +1,5 @@
 // Products past 64 bits, as words of 64: the product of two u64, and a product times a u32.
+// Words and no u128: a product times a u32 passes 128 bits, and takes the other apart by its words.
 #![tactic(auto)]
 
 ghost use Rattle.std.specs.Prelude.{◌≡◌, ◌*◌};

@@ -1,4 +1,4 @@
-// The order of products past 64 bits.
+// The order of products past 64 bits. The structs derive it, word by word from the upper one; that it is the order of the numbers is proved here, once for each.
 #![tactic(auto)]
 
 ghost use Rattle.std.specs.Prelude.{◌≡◌, leb};

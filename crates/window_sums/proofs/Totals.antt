@@ -4,21 +4,23 @@ use mathlib.Core.Path.{◌≡◌, sym, ap, ap₂, ◌∙◌}
 use Prim.Native.Nat.{ℕ, suc, ◌+◌, ◌-◌, ◌^◌, ◌≤◌, ◌<◌, min}
 use native.Mathlib.Nat.{le-add_right, mul-le-mul}
 use native.Mathlib.Omega.{arith}
-use mathlib.Core.Bool.{true, false}
 use mathlib.Core.List.{List}
-use lib.Dec.{T, leb}
+use lib.ListN.{length}
+use lib.Dec.{leb}
 use lib.IntN.{ℤ, pos, ◌+ℤ◌, ◌-ℤ◌, +ℤ_idr}
 use mir.Syntax.{w64}
 use mir.Val.{SFits}
+use Rattle.std.specs.Prelude.{None, Some}
 use Rattle.numbers.specs.Sum.{sum_to, pick}
 use Rattle.numbers.specs.Wrap.{wrap}
 use Rattle.numbers.proofs.Sums.{sum-cong, sum-none, sum-split, sum-range, near-range}
 use Rattle.numbers.proofs.Wraps.{wrap-add-right, wrap-fits, wrap-small}
 use Rattle.numbers.proofs.Writes.{at}
-use Rattle.picture.specs.Size.{size_legal, row_gap, column_gap}
+use Rattle.picture.specs.Size.{row_gap, column_gap}
 use Rattle.picture.specs.Window.{shape_of, height, reach}
-use Rattle.picture.specs.Picture.{Levels, Inputs, plane_value, plane_at}
+use Rattle.picture.specs.Picture.{Inputs, plane_value, plane_at}
 use Rattle.picture.specs.Direct.{window_sum, direct_sum}
+use Rattle.picture.proofs.Found.{Checked}
 use Rattle.picture.proofs.Refusals.{in-limits}
 use Rattle.picture.proofs.Windows.{by_rows, window-bound}
 use Rattle.picture.proofs.Planes.{plane-bound}
@@ -27,23 +29,23 @@ use Rattle.overlaps.specs.Overlaps.{Overlapping, Clipped}
 use Rattle.lines.specs.declared.Line.{Line}
 use Rattle.lines.specs.Lines.{line_of, line_value, Lies}
 use Rattle.lines.proofs.LineValues.{clipped-outside, clipped-value}
-use Rattle.lines.proofs.Exchanges.{line_on, line-off, lent-f, lent-g, lent-value}
+use Rattle.lines.proofs.Exchanges.{line-off, lent-f, lent-g, lent-value, lent-lengths}
 
 -- ---- the cells of a line, added to a sum s
-module _ (p : ℕ) (f g : List ℤ) (l : Line) (n : ℕ) (s : ℤ) where
-  pub line-none-added : SFits w64 s → l.counts ≡ false → s ≡ wrap (s +ℤ sum_to n (line_value p f g l))
-  line-none-added h e =
-      sym (ap (λ (z : ℤ). wrap (s +ℤ z)) (sum-none n (line_value p f g l) (λ k k<. line-off p f g l k e)) ∙ ap wrap (+ℤ_idr s) ∙ wrap-fits s h)
+module _ (p : ℕ) (f g : List ℤ) (n : ℕ) (s : ℤ) where
+  pub line-none-added : SFits w64 s → s ≡ wrap (s +ℤ sum_to n (line_value p f g None))
+  line-none-added h =
+      sym (ap (λ (z : ℤ). wrap (s +ℤ z)) (sum-none n (line_value p f g None) (λ k k<. line-off p f g k)) ∙ ap wrap (+ℤ_idr s) ∙ wrap-fits s h)
 
   -- t is what was summed of the levels as they were lent
-  pub line-added : (i : Lies f g n l) (m : ℕ) (t r : ℤ) → l.counts ≡ true → m ≡ n →
-      t ≡ wrap (sum_to m (λ k. plane_value p (at (lent-f f g n l i) k) (at (lent-g f g n l i) k))) → r ≡ wrap (s +ℤ t) → r ≡ wrap (s +ℤ sum_to n (line_value p f g l))
-  line-added i m t r on e et er =
+  pub line-added : (l : Line) (i : Lies f g n l) (t r : ℤ) →
+      t ≡ wrap (sum_to (length (lent-f f g n l i)) (λ k. plane_value p (at (lent-f f g n l i) k) (at (lent-g f g n l i) k))) → r ≡ wrap (s +ℤ t) → r ≡ wrap (s +ℤ sum_to n (line_value p f g (Some l)))
+  line-added l i t r et er =
       let lent : ℕ → ℤ = λ k. plane_value p (at (lent-f f g n l i) k) (at (lent-g f g n l i) k) in
       er
-      ∙ ap (λ (z : ℤ). wrap (s +ℤ z)) (et ∙ ap (λ (k : ℕ). wrap (sum_to k lent)) e)
+      ∙ ap (λ (z : ℤ). wrap (s +ℤ z)) (et ∙ ap (λ (k : ℕ). wrap (sum_to k lent)) (lent-lengths f g n l i).0)
       ∙ wrap-add-right s (sum_to n lent)
-      ∙ ap (λ (z : ℤ). wrap (s +ℤ z)) (sum-cong n lent (line_value p f g l) (λ k k<. lent-value f g n l i p k k< ∙ sym (line_on p f g l k on)))
+      ∙ ap (λ (z : ℤ). wrap (s +ℤ z)) (sum-cong n lent (line_value p f g (Some l)) (λ k k<. lent-value f g n l i p k k<))
 
 -- ---- values from lo up to hi that are 0 before a and from b on
 module _ (f : ℕ → ℤ) where
@@ -102,23 +104,22 @@ rows-total x i j l =
     sym (by_rows z s (plane_at x.source) i j ∙ near-range z.rows i h row ∙ ap (λ (k : ℕ). sum_to (min (suc (i + h)) z.rows - k) (λ q. row (k + q))) top)
 
 -- the direct sum of pictures of levels is far below 2 ^ 63
-pub direct-fits : (x : Inputs) (i j : ℕ) → T (size_legal x.source.size) → Levels x.source.f → Levels x.source.g → wrap (direct_sum x i j) ≡ direct_sum x i j
+pub direct-fits : (x : Inputs) (i j : ℕ) → Checked x → wrap (direct_sum x i j) ≡ direct_sum x i j
 unfolding direct_sum
-direct-fits x i j t hf hg =
+direct-fits x i j checked =
     let z = x.source.size in
-    let l = in-limits z t in
+    let l = in-limits z checked.size in
     wrap-small (window_sum z (shape_of x.window) (plane_at x.source) i j)
-    (omega (arith, window-bound z (shape_of x.window) (plane_at x.source) (2 ^ 30) i j (plane-bound x.source hf hg), mul-le-mul l.few_rows l.few_columns))
+    (omega (arith, window-bound z (shape_of x.window) (plane_at x.source) (2 ^ 30) i j (plane-bound x.source checked.levels_f checked.levels_g), mul-le-mul l.few_rows l.few_columns))
 
 -- after the window's last row the loop has the direct sum
 pub rows-done : (x : Inputs) (i j top bottom m : ℕ) (s : ℤ) →
     let h = height (shape_of x.window) in
-    i < x.source.size.rows → top ≡ i - h → bottom ≡ min (suc (i + h)) x.source.size.rows → m ≡ bottom →
-    T (size_legal x.source.size) → Levels x.source.f → Levels x.source.g →
+    i < x.source.size.rows → top ≡ i - h → bottom ≡ min (suc (i + h)) x.source.size.rows → m ≡ bottom → Checked x →
     s ≡ wrap (sum_to (m - top) (λ k. window_row x i j (top + k))) → s ≡ direct_sum x i j
-rows-done x i j top bottom m s l et eb em t hf hg e =
+rows-done x i j top bottom m s l et eb em checked e =
     e
     ∙ ap (λ (n : ℕ). wrap (sum_to (n - top) (λ k. window_row x i j (top + k)))) (em ∙ eb)
     ∙ ap (λ (n : ℕ). wrap (sum_to (min (suc (i + height (shape_of x.window))) x.source.size.rows - n) (λ k. window_row x i j (n + k)))) et
     ∙ ap wrap (rows-total x i j l)
-    ∙ direct-fits x i j t hf hg
+    ∙ direct-fits x i j checked

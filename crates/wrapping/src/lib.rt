@@ -1,4 +1,4 @@
-// Sums and differences of i64 that wrap at 64 bits.
+// Sums and differences of i64 that wrap at 64 bits: std's methods, which promise it of the bits. The promise of the integers, `wrap`, stands here once.
 #![tactic(auto)]
 
 ghost use Rattle.std.specs.Prelude.{◌≡◌, ◌+ℤ◌, ◌-ℤ◌};

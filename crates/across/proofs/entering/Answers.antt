@@ -1,4 +1,5 @@
 -- `across::entering` meets its contract. Assumes nothing.
+use borrow.Author.Rules.{rules}
 use mathlib.Core.Path.{◌≡◌, refl, ◌∙◌}
 use Prim.Native.Nat.{◌+◌}
 use native.Mathlib.Omega.{arith}
@@ -12,16 +13,14 @@ use Rattle.across.proofs.entering.Goals as goal
 
 pub loop-j-preserved : goal.loop-j-preserved
 loop-j-preserved c =
-    let a = c.args in
     let l = c.loop-j in
-    let work = a.work.now in
-    let b = a.b in
+    let work = c.args.work.now in
+    let b = c.args.b in
     let j = l.j in
-    let x : SFits w64 (at work (j + b)) = record { sfits = c.wrapping_add-arg-1.given } in
-    let r : SFits w64 c.wrapping_add-s.result = record { sfits = c.wrapping_add-s.type_inv } in
+    let x : SFits w64 (at work (j + b)) = search rules in
+    let r : SFits w64 c.wrapping_add-s.result = search rules in
     let e : to_z w64 (of_z w64 c.wrapping_add-s.result) ≡ range_sum work 0 (j + b + 1) =
-    simp (to_z-of_z, r) (simp (to_z-of_z, x) at c.wrapping_add-s.ensures ∙ range-enter work 0 (j + b) (to_z w64 l.s-bits) l.invariant.1) in (
-      omega arith,
+    simp (to_z-of_z, r) (simp (to_z-of_z, x) at c.wrapping_add-s.ensures ∙ range-enter work 0 (j + b) (to_z w64 l.s-bits) l.invariant.0) in (
       e ∙ range_at work _ _ _ _ refl (omega arith),
-      written-more l.invariant.2 _ (omega arith) (omega arith) (e ∙ range-near work b j 0 (j + b + 1) (omega arith) (omega arith)),
+      written-more l.invariant.1 _ (omega arith) (omega arith) (e ∙ range-near work b j 0 (j + b + 1) (omega arith) (omega arith)),
     )

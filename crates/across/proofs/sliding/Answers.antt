@@ -1,4 +1,5 @@
 -- `across::sliding` meets its contract. Assumes nothing.
+use borrow.Author.Rules.{rules}
 use mathlib.Core.Path.{◌≡◌, ap, ◌∙◌}
 use Prim.Native.Nat.{◌+◌, ◌-◌}
 use native.Mathlib.Omega.{arith}
@@ -14,20 +15,17 @@ use Rattle.across.proofs.sliding.Goals as goal
 
 pub loop-j-preserved : goal.loop-j-preserved
 loop-j-preserved c =
-    let a = c.args in
     let l = c.loop-j in
-    let work = a.work.now in
-    let b = a.b in
+    let work = c.args.work.now in
+    let b = c.args.b in
     let j = l.j in
-    let x : SFits w64 (at work (j + b)) = record { sfits = c.wrapping_sub-arg-1.given } in
-    let y : SFits w64 (at work (j - b - 1)) = record { sfits = c.wrapping_sub-arg-in-loop-j-1.given } in
-    let d : SFits w64 c.wrapping_sub.result = record { sfits = c.wrapping_sub.type_inv } in
-    let r : SFits w64 c.wrapping_add-s.result = record { sfits = c.wrapping_add-s.type_inv } in
+    let x : SFits w64 (at work (j + b)) = search rules in
+    let y : SFits w64 (at work (j - b - 1)) = search rules in
+    let d : SFits w64 c.wrapping_sub.result = search rules in
+    let r : SFits w64 c.wrapping_add-s.result = search rules in
     let change : c.wrapping_sub.result ≡ wrap (at work (j + b) -ℤ at work (j - b - 1)) = simp (to_z-of_z, x, y) at c.wrapping_sub.ensures in
     let e : to_z w64 (of_z w64 c.wrapping_add-s.result) ≡ range_sum work (j - b - 1 + 1) (j + b + 1) =
-    simp (to_z-of_z, r) (simp (to_z-of_z, d) at c.wrapping_add-s.ensures ∙ ap (λ (z : ℤ). wrap (to_z w64 l.s-bits +ℤ z)) change ∙ range-slide work (j - b - 1) (j + b) (to_z w64 l.s-bits) l.invariant.2) in (
-      omega arith,
-      omega arith,
+    simp (to_z-of_z, r) (simp (to_z-of_z, d) at c.wrapping_add-s.ensures ∙ ap (λ (z : ℤ). wrap (to_z w64 l.s-bits +ℤ z)) change ∙ range-slide work (j - b - 1) (j + b) (to_z w64 l.s-bits) l.invariant.0) in (
       e ∙ range_at work _ _ _ _ (omega arith) (omega arith),
-      written-more l.invariant.3 _ (omega arith) (omega arith) (e ∙ range-near work b j (j - b - 1 + 1) (j + b + 1) (omega arith) (omega arith)),
+      written-more l.invariant.1 _ (omega arith) (omega arith) (e ∙ range-near work b j (j - b - 1 + 1) (j + b + 1) (omega arith) (omega arith)),
     )

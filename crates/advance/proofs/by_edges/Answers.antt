@@ -4,10 +4,11 @@ use Prim.Native.Nat.{ℕ, ◌-◌, ◌≤◌}
 use native.Mathlib.Omega.{arith}
 use lib.ListN.{length}
 use borrow.Rule.Slice.PartMut.{put_mid}
+use Rattle.picture.specs.Checked.{given, checked_source}
 use Rattle.numbers.proofs.Lines.{line-end}
 use Rattle.numbers.proofs.Writes.{slice-length, part_length}
 use Rattle.picture.specs.Window.{shape_of}
-use Rattle.picture.specs.Picture.{source, plane_at}
+use Rattle.picture.specs.Picture.{plane_at}
 use Rattle.session.specs.Rows.{strip, Advanced, output_row}
 use Rattle.session.proofs.Strips.{two-parts, first-and-rest}
 use Rattle.advance.proofs.by_edges.Goals as goal
@@ -16,8 +17,8 @@ pub returns-then-position-eq0 : goal.returns-then-position-eq0
 returns-then-position-eq0 c =
     let fits : c.args.inputs.now.source.size.columns ≤ length c.args.out.now = omega (arith, c.requires.many.room, line-end 0 c.args.n c.args.inputs.now.source.size.columns c.requires.some) in
     let z = c.args.inputs.now.source.size in
-    let P = plane_at (source z c.args.inputs.now.source.f.now c.args.inputs.now.source.g.now c.args.inputs.now.source.shift c.args.inputs.now.source.plane) in
-    let S = shape_of c.args.inputs.now.window in
+    let P = plane_at (checked_source c.args.inputs.now.source) in
+    let S = shape_of (given c.args.inputs.now.window) in
     let first = c.next in
     let rest = c.many in
     let end = length c.args.out.now in

@@ -4,24 +4,24 @@ use Prim.Native.Nat.{ℕ, ◌+◌, ◌-◌, ◌≤◌}
 use native.Mathlib.Omega.{arith}
 use lib.IntN.{ℤ}
 use lib.ListN.{length}
+use Rattle.picture.proofs.Found.{limits}
 use Rattle.numbers.proofs.Lines.{line-end}
 use Rattle.numbers.proofs.Writes.{slice-length}
 use Rattle.picture.specs.Window.{shape_of}
 use Rattle.picture.specs.Picture.{plane_at}
-use Rattle.picture.specs.Given.{source_of}
-use Rattle.picture.proofs.Refusals.{in-limits}
+use Rattle.picture.specs.Checked.{given, checked_source}
 use Rattle.session.specs.Rows.{output_row}
 use Rattle.session.proofs.Strips.{partly_none, partly_more}
 use Rattle.advance.proofs.one_by_one.Goals as goal
 
 pub loop-k-init : goal.loop-k-init
 loop-k-init c =
-    let plane : ℕ → ℕ → ℤ = plane_at (source_of c.args.inputs.now.source) in
-    (omega arith, omega arith, refl, c.requires.room_work, partly_none c.args.inputs.now.source.size plane (shape_of c.args.inputs.now.window) c.args.position c.args.work.now c.args.out.now)
+    let plane : ℕ → ℕ → ℤ = plane_at (checked_source c.args.inputs.now.source) in
+    (omega arith, omega arith, refl, c.requires.room_work, partly_none c.args.inputs.now.source.size plane (shape_of (given c.args.inputs.now.window)) c.args.position c.args.work.now c.args.out.now)
 
 pub loop-k-preserved : goal.loop-k-preserved
 loop-k-preserved c =
-    let plane : ℕ → ℕ → ℤ = plane_at (source_of c.args.inputs.now.source) in
+    let plane : ℕ → ℕ → ℤ = plane_at (checked_source c.args.inputs.now.source) in
     let ends : c.loop-k.start + c.args.inputs.now.source.size.columns ≤ length c.loop-k.out =
     let l = c.loop-k in
     omega (arith, l.invariant.1, l.invariant.2, c.requires.room, line-end l.k c.args.n c.args.inputs.now.source.size.columns c.loop-k-test.true) in
@@ -34,10 +34,10 @@ loop-k-preserved c =
       omega (arith, l.invariant.1),
       c.out-1.given.1 ∙ l.invariant.2,
       call.auto.work ∙ l.invariant.3,
-      partly_more z plane (shape_of c.args.inputs.now.window) c.args.position c.args.work.now l.k l.start l.work l.out _ call.new.out
-          l.invariant.4 l.invariant.1 ends call.ensures.work (call.ensures.out ∙ ap (output_row z (shape_of c.args.inputs.now.window)) (sym call.ensures.work)) written,
+      partly_more z plane (shape_of (given c.args.inputs.now.window)) c.args.position c.args.work.now l.k l.start l.work l.out _ call.new.out
+          l.invariant.4 l.invariant.1 ends call.ensures.work (call.ensures.out ∙ ap (output_row z (shape_of (given c.args.inputs.now.window))) (sym call.ensures.work)) written,
     )
 
 pub overflow_add-position : goal.overflow_add-position
 overflow_add-position c =
-    record { fits = omega (arith, c.requires.rows, c.loop-k-test.true, (in-limits c.args.inputs.now.source.size c.requires.inputs.size).few_rows) }
+    record { fits = omega (arith, c.requires.rows, c.loop-k-test.true, (limits c.args.inputs.now.source).few_rows) }

@@ -4,9 +4,9 @@ use Prim.Native.Nat.{◌*◌, ◌≤◌}
 use lib.ListN.{length}
 use Rattle.picture.specs.Window.{shape_of}
 use Rattle.picture.specs.Picture.{plane_at}
-use Rattle.picture.specs.Given.{source_of}
+use Rattle.picture.specs.Checked.{given, checked_source}
 use Rattle.session.proofs.Strips.{Partly}
 use Rattle.advance.proofs.one_by_one.Given as goal
 
 abbrev pub invariant-loop-k : goal.invariant-loop-k
-invariant-loop-k l = (l.k ≤ l.n) × (l.start ≡ l.k * l.inputs.source.size.columns) × (length l.out ≡ length l.initial.out) × (length l.work ≡ l.inputs.source.size.columns) × Partly l.inputs.source.size (plane_at (source_of l.inputs.source)) (shape_of l.inputs.window) l.position l.initial.work l.k l.work l.out
+invariant-loop-k l = (l.k ≤ l.n) × (l.start ≡ l.k * l.inputs.source.size.columns) × (length l.out ≡ length l.initial.out) × (length l.work ≡ l.inputs.source.size.columns) × Partly l.inputs.source.size (plane_at (checked_source l.inputs.source)) (shape_of (given l.inputs.window)) l.position l.initial.work l.k l.work l.out

@@ -1,5 +1,6 @@
 -- `areas::output` meets its contract. Assumes nothing.
 use mathlib.Core.Path.{sym, ◌∙◌}
+use Rattle.picture.specs.Checked.{given}
 use Rattle.picture.specs.Window.{shape_of}
 use Rattle.session.proofs.Strips.{output-slanted}
 use Rattle.areas.proofs.Shapes.{output-rectangle}
@@ -7,8 +8,8 @@ use Rattle.areas.proofs.output.Goals as goal
 
 pub returns-then-is_rectangle : goal.returns-then-is_rectangle
 returns-then-is_rectangle c =
-    output-rectangle c.args.size (shape_of c.args.window) _ c.args.work.now _ (sym c.is_rectangle.ensures ∙ c.if-is_rectangle.true) c.width.ensures c.requires.room_work c.across.ensures
+    output-rectangle c.args.size (shape_of (given c.args.window)) _ c.args.work.now _ (sym c.is_rectangle.ensures ∙ c.if-is_rectangle.true) c.width.ensures c.requires.room_work c.across.ensures
 
 pub returns : goal.returns
 returns c =
-    output-slanted c.args.size (shape_of c.args.window) c.args.work.now _ (sym c.is_rectangle.ensures ∙ c.if-is_rectangle.false) c.copy_from_slice.ensures.after
+    output-slanted c.args.size (shape_of (given c.args.window)) c.args.work.now _ (sym c.is_rectangle.ensures ∙ c.if-is_rectangle.false) c.copy_from_slice.ensures.after

@@ -4,16 +4,17 @@ use Prim.Native.Nat.{◌-◌, ◌*◌, ◌%◌, ◌≤◌}
 use native.Mathlib.Omega.{arith}
 use native.Mathlib.Nat.{mul-le-mul_right}
 use lib.ListN.{length, take, drop}
+use Rattle.picture.proofs.Found.{checked}
 use Rattle.numbers.proofs.Writes.{slice-length}
 use Rattle.picture.specs.Picture.{Inputs, inputs}
-use Rattle.picture.specs.Given.{inputs_of}
+use Rattle.picture.specs.Checked.{checked_inputs}
 use Rattle.blocks.specs.Blocks.{rows_in}
 use Rattle.blocks.proofs.RowSums.{block_made, row_first}
 use Rattle.blocks.proofs.next.Goals as goal
 
 pub returns : goal.returns
 returns c =
-    let given : Inputs = inputs_of c.args.inputs.now in
+    let given : Inputs = checked_inputs c.args.inputs.now in
     let rows_of : c.high.result - c.args.i ≡ rows_in given c.args.i = rw c.high.ensures in
     let few : (c.high.result - c.args.i) * c.args.inputs.now.source.size.columns ≤ 16 * c.args.inputs.now.source.size.columns = mul-le-mul_right c.args.inputs.now.source.size.columns (omega (arith, c.high.ensures)) in
     let lent : length (take ((c.high.result - c.args.i) * c.args.inputs.now.source.size.columns - 0) (drop 0 c.args.block.now)) ≡ (c.high.result - c.args.i) * c.args.inputs.now.source.size.columns = slice-length 0 ((c.high.result - c.args.i) * c.args.inputs.now.source.size.columns) c.args.block.now (omega arith) (omega (arith, few, c.requires.room)) ∙ omega arith in
@@ -22,4 +23,4 @@ returns c =
     let start : i % 16 ≡ 0 = omega (arith, c.if-i-ne0.false) in
     let part = m.new.out in
     row_first given i _ _ c.requires.row start
-    (block_made given c.requires.inputs i (c.high.result - i) c.args.work.now m.new.work c.args.block.now part rows_of (c.requires.before.fresh start) m.ensures (omega (arith, few, c.requires.room)) (m.auto.out ∙ lent))
+    (block_made given (checked c.args.inputs.now) i (c.high.result - i) c.args.work.now m.new.work c.args.block.now part rows_of (c.requires.before.fresh start) m.ensures (omega (arith, few, c.requires.room)) (m.auto.out ∙ lent))

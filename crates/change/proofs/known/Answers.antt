@@ -1,5 +1,6 @@
 -- `change::known` meets its contract. Assumes nothing.
 use Prim.Native.Nat.{ℕ, ◌<◌}
+use borrow.Author.Rules.{rules}
 use native.Mathlib.Omega.{arith}
 use native.Mathlib.Decide.{dec_lt}
 use mathlib.Core.Path.{◌≡◌, refl}
@@ -14,10 +15,10 @@ use Rattle.lines.specs.Lines.{Numbers}
 use Rattle.change.proofs.known.Goals as goal
 
 pub loop-k-preserved : goal.loop-k-preserved
-loop-k-preserved c = (omega arith, below_more _ _ c.loop-k.invariant.1 (wrap-fits _ (record { sfits = c.number-1.given })))
+loop-k-preserved c = below_more _ _ c.loop-k.invariant (wrap-fits _ (search rules))
 
 pub returns : goal.returns
-returns c = numbers c.args.sums.now (λ k h. c.loop-k.invariant.1 k (omega arith))
+returns c = numbers c.args.sums.now (λ k h. c.loop-k.invariant k (omega arith))
   where
     numbers : (l : List ℤ) → ((k : ℕ) → k < length l → wrap (at l k) ≡ at l k) → Numbers l
     numbers l h = record { whole = λ k. go k (dec_lt k (length l)) }

@@ -1,24 +1,32 @@
 -- `checks::check_inputs` meets its contract. Assumes nothing.
-use Rattle.picture.proofs.Refusals.{refuses-here, passes-here, line-refuses, line-passes, plane-last}
+use mathlib.Core.Path.{ap₂}
+use Rattle.picture.specs.declared.Window.{Window}
+use Rattle.picture.specs.Picture.{Source, Inputs}
+use Rattle.picture.proofs.Refusals.{stops-here, passes-here, refuses, answers, refused-tells, answered-tells}
 use Rattle.checks.proofs.check_inputs.Goals as goal
 
+abbrev whole : Source → Window → Inputs
+whole s w = record { source = s; window = w }
+
 pub returns-in_err-check_pictures : goal.returns-in_err-check_pictures
-returns-in_err-check_pictures c = refuses-here _ _ _ _ c.in_err-check_pictures.ensures c.from_residual.ensures.1
+returns-in_err-check_pictures c = refuses _ _ _ _ _ (stops-here _ _ _ c.in_err-check_pictures.ensures) c.from_residual.ensures.1
 
-pub returns-in_err-require : goal.returns-in_err-require
-returns-in_err-require c =
-    passes-here _ _ _ c.in_ok-check_pictures.ensures
-    (line-refuses _ _ _ _ _ _ c.window_legal.ensures c.in_err-require.ensures c.from_residual-in_err-require.ensures.1)
+pub returns-in_err-window : goal.returns-in_err-window
+returns-in_err-window c =
+    refuses _ _ _ _ _
+    (passes-here _ _ _ c.in_ok-check_pictures.ensures (stops-here _ _ _ (refused-tells _ _ _ c.in_err-window.ensures)))
+    c.from_residual-in_err-window.ensures.1
 
-pub returns-in_err-require-2 : goal.returns-in_err-require-2
-returns-in_err-require-2 c =
-    passes-here _ _ _ c.in_ok-check_pictures.ensures
-    (line-passes _ _ _ _ _ c.window_legal.ensures c.in_ok-require.ensures
-    (line-refuses _ _ _ _ _ _ c.shift_legal.ensures c.in_err-require-2.ensures c.from_residual-in_err-require-2.ensures.1))
+pub returns-in_err-source : goal.returns-in_err-source
+returns-in_err-source c =
+    let window = answered-tells _ _ _ c.in_ok-window.ensures in
+    refuses _ _ _ _ _
+    (passes-here _ _ _ c.in_ok-check_pictures.ensures (passes-here _ _ _ window.0 (refused-tells _ _ _ c.in_err-source.ensures)))
+    c.from_residual-in_err-source.ensures.1
 
 pub returns : goal.returns
 returns c =
-    passes-here _ _ _ c.in_ok-check_pictures.ensures
-    (line-passes _ _ _ _ _ c.window_legal.ensures c.in_ok-require.ensures
-    (line-passes _ _ _ _ _ c.shift_legal.ensures c.in_ok-require-2.ensures
-    (plane-last _ _ c.require-3.ensures)))
+    let window = answered-tells _ _ _ c.in_ok-window.ensures in
+    let source = answered-tells _ _ _ c.in_ok-source.ensures in
+    answers _ _ _ (passes-here _ _ _ c.in_ok-check_pictures.ensures (passes-here _ _ _ window.0 source.0))
+    (ap₂ whole source.1 window.1)

@@ -1,6 +1,4 @@
 -- `checks::require` meets its contract. Assumes nothing.
-use mathlib.Core.Path.{sym}
-use mathlib.Core.Option.{none, some}
 use Rattle.picture.specs.Answers.{number}
 use Rattle.picture.proofs.Refusals.{require-sound, require-unsound}
 use Rattle.checks.proofs.require.Goals as goal

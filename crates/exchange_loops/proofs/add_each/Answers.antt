@@ -3,18 +3,12 @@ use Rattle.std.proofs.Common.{◌∙◌, arith, rules, w64}
 use mir.Facts.{to_z-of_z}
 use mir.Val.{SFits}
 use Rattle.numbers.proofs.Writes.{at}
-use Rattle.exchange_loops.proofs.Adding.{added_none, added_more}
+use Rattle.exchange_loops.proofs.Adding.{added_more}
 use Rattle.exchange_loops.proofs.add_each.Goals as goal
 
-pub loop-k-init : goal.loop-k-init
-loop-k-init g c = added_none _ _
-
-pub loop-k-preserved : goal.loop-k-preserved
-loop-k-preserved g c =
-    let sum : SFits w64 (at c.loop-k.sums c.loop-k.k) = search rules in
+pub loop-place-preserved : goal.loop-place-preserved
+loop-place-preserved g c =
+    let sum : SFits w64 (at c.loop-place.sums c.loop-place.place) = search rules in
     let more : SFits w64 c.by.result = record { sfits = c.by.type_inv } in
     let all : SFits w64 c.wrapping_add.result = record { sfits = c.wrapping_add.type_inv } in
-    added_more c.loop-k.invariant _ c.by.result (omega arith) c.by.ensures (to_z-of_z all ∙ simp (to_z-of_z, sum, more) at c.wrapping_add.ensures)
-
-pub returns : goal.returns
-returns g c = record { size = c.loop-k.invariant.size; each = λ k h. c.loop-k.invariant.done k (omega arith) }
+    added_more c.loop-place.invariant _ c.by.result (omega arith) c.by.ensures (to_z-of_z all ∙ simp (to_z-of_z, sum, more) at c.wrapping_add.ensures)

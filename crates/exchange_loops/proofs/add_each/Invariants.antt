@@ -2,5 +2,5 @@
 use Rattle.exchange_loops.proofs.Adding.{AddedUpto}
 use Rattle.exchange_loops.proofs.add_each.Given as goal
 
-abbrev pub invariant-loop-k : goal.invariant-loop-k
-invariant-loop-k g l = AddedUpto (goal.F-post g l.fn.by) l.initial.sums l.sums l.k
+abbrev pub invariant-loop-place : goal.invariant-loop-place
+invariant-loop-place g l = AddedUpto (goal.F-post g l.fn.by) l.initial.sums l.sums l.place

@@ -5,42 +5,41 @@ use native.Mathlib.Omega.{arith}
 use lib.IntN.{ℤ}
 use lib.ListN.{length, drop, length-append, length-drop}
 use lib.Seq.{length-take-le}
+use Rattle.picture.proofs.Found.{limits, checked}
 use Rattle.numbers.proofs.Grids.{length-tabulate}
 use Rattle.picture.specs.Window.{shape_of, height}
 use Rattle.picture.specs.Picture.{Source, source, plane_at}
-use Rattle.picture.specs.Given.{source_of}
+use Rattle.picture.specs.Checked.{given, checked_source}
 use Rattle.picture.specs.Direct.{direct_sum}
-use Rattle.picture.proofs.Refusals.{in-limits}
 use Rattle.picture.proofs.Planes.{plane-bound}
 use Rattle.steps.proofs.Columns.{columns-none, columns-plus, reached, windows-all}
 use Rattle.first_rows.proofs.first.Goals as goal
 
 pub high-end-requires : goal.high-end-requires
-high-end-requires c = omega (arith, (in-limits c.args.inputs.now.source.size c.requires.inputs.size).some_rows)
+high-end-requires c = omega (arith, (limits c.args.inputs.now.source).some_rows)
 
 pub loop-m-init : goal.loop-m-init
 loop-m-init c =
-    let pictures : Source = source_of c.args.inputs.now.source in
-    let rows : ℕ → ℕ → ℤ = reached c.args.inputs.now.source.size (plane_at pictures) (shape_of c.args.inputs.now.window) in
+    let pictures : Source = checked_source c.args.inputs.now.source in
+    let rows : ℕ → ℕ → ℤ = reached c.args.inputs.now.source.size (plane_at pictures) (shape_of (given c.args.inputs.now.window)) in
     (omega arith, c.requires.room, refl, columns-none rows c.args.inputs.now.source.size.columns _ _ c.requires.room_work c.fill.ensures)
 
 pub slice_bounds-cells-end : goal.slice_bounds-cells-end
 slice_bounds-cells-end c =
-    let few : c.args.inputs.now.source.size.columns ≤ 1024 = (in-limits c.args.inputs.now.source.size c.requires.inputs.size).few_columns in
+    let few : c.args.inputs.now.source.size.columns ≤ 1024 = (limits c.args.inputs.now.source).few_columns in
     omega (arith, few, c.loop-m.invariant.2)
 
 pub slice_bounds-reaching-end : goal.slice_bounds-reaching-end
 slice_bounds-reaching-end c =
-    let few : c.args.inputs.now.source.size.columns ≤ 1024 = (in-limits c.args.inputs.now.source.size c.requires.inputs.size).few_columns in
+    let few : c.args.inputs.now.source.size.columns ≤ 1024 = (limits c.args.inputs.now.source).few_columns in
     sym (length-take-le _ _ (omega (arith, few, c.loop-m.invariant.2)))
 
 pub reaching-requires : goal.reaching-requires
 reaching-requires c =
-    let few : c.args.inputs.now.source.size.columns ≤ 1024 = (in-limits c.args.inputs.now.source.size c.requires.inputs.size).few_columns in
+    let few : c.args.inputs.now.source.size.columns ≤ 1024 = (limits c.args.inputs.now.source).few_columns in
     let l = c.loop-m in
     record {
       step = record {
-        inputs = c.requires.inputs;
         row = omega (arith, c.loop-m-test.true, c.high-end.ensures);
         room_work = ap length l.invariant.3 ∙ length-tabulate _ _;
         room = l.invariant.1;
@@ -50,9 +49,9 @@ reaching-requires c =
 
 pub loop-m-preserved : goal.loop-m-preserved
 loop-m-preserved c =
-    let pictures : Source = source_of c.args.inputs.now.source in
-    let rows : ℕ → ℕ → ℤ = reached c.args.inputs.now.source.size (plane_at pictures) (shape_of c.args.inputs.now.window) in
-    let few : c.args.inputs.now.source.size.columns ≤ 1024 = (in-limits c.args.inputs.now.source.size c.requires.inputs.size).few_columns in
+    let pictures : Source = checked_source c.args.inputs.now.source in
+    let rows : ℕ → ℕ → ℤ = reached c.args.inputs.now.source.size (plane_at pictures) (shape_of (given c.args.inputs.now.window)) in
+    let few : c.args.inputs.now.source.size.columns ≤ 1024 = (limits c.args.inputs.now.source).few_columns in
     let l = c.loop-m in
     let call = c.reaching in (
       omega (arith, c.loop-m-test.true),
@@ -64,8 +63,7 @@ loop-m-preserved c =
 pub returns : goal.returns
 unfolding direct_sum
 returns c =
-    let pictures : Source = source_of c.args.inputs.now.source in
+    let pictures : Source = checked_source c.args.inputs.now.source in
     let l = c.loop-m in
-    let x = c.requires.inputs in
-    let end : l.m ≡ min (suc (0 + height (shape_of c.args.inputs.now.window))) c.args.inputs.now.source.size.rows = omega (arith, l.invariant.0, c.loop-m-test.false) ∙ c.high-end.ensures ∙ ap (λ (a : ℕ). min (suc (0 + a)) c.args.inputs.now.source.size.rows) c.height.ensures in
-    windows-all c.args.inputs.now.source.size (plane_at pictures) (in-limits c.args.inputs.now.source.size x.size) (plane-bound pictures x.levels_f x.levels_g) (shape_of c.args.inputs.now.window) l.m _ end l.invariant.3
+    let end : l.m ≡ min (suc (0 + height (shape_of (given c.args.inputs.now.window)))) c.args.inputs.now.source.size.rows = omega (arith, l.invariant.0, c.loop-m-test.false) ∙ c.high-end.ensures ∙ ap (λ (a : ℕ). min (suc (0 + a)) c.args.inputs.now.source.size.rows) c.height.ensures in
+    windows-all c.args.inputs.now.source.size (plane_at pictures) (limits c.args.inputs.now.source) (plane-bound pictures c.args.inputs.now.source.levels_f c.args.inputs.now.source.levels_g) (shape_of (given c.args.inputs.now.window)) l.m _ end l.invariant.3

@@ -4,9 +4,9 @@ use Prim.Native.Nat.{◌≤◌}
 use lib.ListN.{length}
 use Rattle.picture.specs.Window.{shape_of}
 use Rattle.picture.specs.Picture.{plane_at}
-use Rattle.picture.specs.Given.{source_of}
+use Rattle.picture.specs.Checked.{given, checked_source}
 use Rattle.steps.proofs.Columns.{columns_to, reached}
 use Rattle.first_rows.proofs.first.Given as goal
 
 abbrev pub invariant-loop-m : goal.invariant-loop-m
-invariant-loop-m l = (l.m ≤ l.end) × (length l.row ≡ l.inputs.source.size.columns) × (length l.cells ≡ 1024) × (l.work ≡ columns_to (reached l.inputs.source.size (plane_at (source_of l.inputs.source)) (shape_of l.inputs.window)) l.inputs.source.size.columns l.m)
+invariant-loop-m l = (l.m ≤ l.end) × (length l.row ≡ l.inputs.source.size.columns) × (length l.cells ≡ 1024) × (l.work ≡ columns_to (reached l.inputs.source.size (plane_at (checked_source l.inputs.source)) (shape_of (given l.inputs.window))) l.inputs.source.size.columns l.m)

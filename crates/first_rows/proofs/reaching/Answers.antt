@@ -9,19 +9,19 @@ use Rattle.numbers.specs.Wrap.{wrap}
 use Rattle.numbers.proofs.Writes.{tabulate-at}
 use Rattle.picture.specs.Window.{shape_of, reach}
 use Rattle.picture.specs.Picture.{plane_at}
-use Rattle.picture.specs.Given.{source_of}
+use Rattle.picture.specs.Checked.{given, checked_source}
 use Rattle.across.specs.Across.{neighbour_sum}
 use Rattle.steps.proofs.AcrossRows.{added-across}
 use Rattle.first_rows.proofs.reaching.Goals as goal
 
 pub returns : goal.returns
 returns c =
-    let plane : ℕ → ℕ → ℤ = plane_at (source_of c.args.inputs.now.source) in
+    let plane : ℕ → ℕ → ℤ = plane_at (checked_source c.args.inputs.now.source) in
     let columns = c.args.inputs.now.source.size.columns in
     let part = c.part in
     let cells = part.new.out in
     let whole : length cells ≡ columns = part.auto.out ∙ c.requires.room in
-    added-across columns (reach (shape_of c.args.inputs.now.window) c.args.m) (plane c.args.m) c.args.work.now _ cells _ whole
+    added-across columns (reach (shape_of (given c.args.inputs.now.window)) c.args.m) (plane c.args.m) c.args.work.now _ cells _ whole
     (λ n n<.
     let here : 0 + n ≡ n = omega arith in
     ap wrap (tabulate-at cells _ _ part.ensures n (omega (arith, whole)) ∙ ap (plane c.args.m) here))

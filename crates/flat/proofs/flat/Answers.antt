@@ -6,11 +6,11 @@ use mathlib.Core.List.{List, ◌++◌}
 use lib.IntN.{ℤ, pos}
 use lib.ListN.{length, take, drop, replicate}
 use lib.Seq.{length-take-le}
+use Rattle.picture.proofs.Found.{limits}
 use Rattle.numbers.specs.Wrap.{wrap}
 use Rattle.numbers.proofs.Grids.{length-tabulate}
 use Rattle.picture.specs.Picture.{plane_at}
-use Rattle.picture.specs.Given.{source_of}
-use Rattle.picture.proofs.Refusals.{in-limits}
+use Rattle.picture.specs.Checked.{checked_source}
 use Rattle.numbers.proofs.Running.{wrap-wrap}
 use Rattle.numbers.proofs.Writes.{at, tabulate-at}
 use Rattle.session.specs.Rows.{enter_leave}
@@ -19,25 +19,25 @@ use Rattle.flat.proofs.flat.Goals as goal
 
 pub returns-then-k-eq0 : goal.returns-then-k-eq0
 returns-then-k-eq0 c =
-    let plane : ℕ → ℕ → ℤ = plane_at (source_of c.args.source.now) in
+    let plane : ℕ → ℕ → ℤ = plane_at (checked_source c.args.source.now) in
     let gains : ℕ → ℤ = enter_leave c.args.source.now.size plane c.args.i c.args.h in
     added-alone c.args.source.now.size.columns c.args.k gains c.args.work.now _ c.if-k-eq0.true c.add_gain.ensures
 
 pub slice_bounds-change-end : goal.slice_bounds-change-end
 slice_bounds-change-end c =
-    let few : c.args.source.now.size.columns ≤ 1024 = (in-limits c.args.source.now.size c.requires.row.size).few_columns in
+    let few : c.args.source.now.size.columns ≤ 1024 = (limits c.args.source.now).few_columns in
     few
 
 pub slice_bounds-gain-end : goal.slice_bounds-gain-end
 slice_bounds-gain-end c =
-    let few : c.args.source.now.size.columns ≤ 1024 = (in-limits c.args.source.now.size c.requires.row.size).few_columns in
+    let few : c.args.source.now.size.columns ≤ 1024 = (limits c.args.source.now).few_columns in
     sym (length-take-le _ _ few)
 
 pub gain-requires : goal.gain-requires
 gain-requires c =
-    let few : c.args.source.now.size.columns ≤ 1024 = (in-limits c.args.source.now.size c.requires.row.size).few_columns in
+    let few : c.args.source.now.size.columns ≤ 1024 = (limits c.args.source.now).few_columns in
     let r = c.requires.row in
-    record { size = r.size; length_f = r.length_f; length_g = r.length_g; row = r.row; distance = r.distance; room = length-take-le _ _ few }
+    record { row = r.row; distance = r.distance; room = length-take-le _ _ few }
 
 pub slice_bounds-change-end-2 : goal.slice_bounds-change-end-2
 slice_bounds-change-end-2 c =
@@ -69,7 +69,7 @@ across-requires c =
 
 pub returns : goal.returns
 returns c =
-    let plane : ℕ → ℕ → ℤ = plane_at (source_of c.args.source.now) in
+    let plane : ℕ → ℕ → ℤ = plane_at (checked_source c.args.source.now) in
     let gains : ℕ → ℤ = enter_leave c.args.source.now.size plane c.args.i c.args.h in
     let columns : ℕ = c.args.source.now.size.columns in
     let change : List ℤ = c.gain.new.row in

@@ -1,7 +1,7 @@
 -- `leans::finish_tips` meets its contract. Assumes nothing.
 use mathlib.Core.Path.{◌∙◌, ap₂}
 use Prim.Native.Nat.{◌+◌}
-use native.Mathlib.Omega.{arith}
+use Rattle.std.proofs.Common.{arith, rules}
 use lib.IntN.{ℤ, ◌+ℤ◌, ◌-ℤ◌}
 use mir.Facts.{to_z-of_z}
 use mir.Syntax.{w64}
@@ -27,7 +27,7 @@ loop-j-preserved g c =
     let l = c.loop-j in
     let S = g.S.Slope in
     let V = g.S.Value.PlaneValue in
-    let w : SFits w64 (at l.work l.j) = record { sfits = c.wrapping_add-arg-1.given } in
+    let w : SFits w64 (at l.work l.j) = search rules in
     let d : SFits w64 c.with_tips-change.result = record { sfits = c.with_tips-change.type_inv } in
     let r : SFits w64 c.wrapping_add-sum.result = record { sfits = c.wrapping_add-sum.type_inv } in
     let slopes = ap₂ ◌+ℤ◌ (read S.sum c.args.rising.now (l.j + c.args.p) c.index-rising-j.result (omega arith)) (read S.sum c.args.falling.now (l.j + c.args.q) c.index-falling-j.result (omega arith)) in

@@ -3,19 +3,15 @@ use mathlib.Core.Path.{◌∙◌, ap₂}
 use Prim.Native.Nat.{◌+◌}
 use native.Mathlib.Omega.{arith}
 use lib.IntN.{◌+ℤ◌, ◌-ℤ◌}
-use Rattle.slopes.proofs.Loops.{moved_none}
 use Rattle.leans.proofs.Numbers.{read, next_read, next_moved}
 use Rattle.leans.proofs.gather.Goals as goal
-
-pub loop-x-init : goal.loop-x-init
-loop-x-init g c = (omega arith, moved_none _ _ _ c.requires.0.length_sums)
 
 pub gain-requires : goal.gain-requires
 gain-requires g c =
     let l = c.loop-x in
     let V = g.S.Value.PlaneValue in
     let inside = c.loop-x-test.true in (
-      rw (next_read g.S.Slope.sum c.args.sums.now l.sums l.invariant.1 c.index-sums-x.result (omega arith)) (omega (arith, c.requires.0.within.each l.x inside)),
+      rw (next_read g.S.Slope.sum c.args.sums.now l.sums l.invariant c.index-sums-x.result (omega arith)) (omega (arith, c.requires.0.within.each l.x inside)),
       rw (read V.value c.args.a.now (l.x + c.args.pa) c.index-a-x.result (omega arith)) (c.requires.1.each l.x inside),
       rw (read V.value c.args.b.now (l.x + c.args.pb) c.index-b-x.result (omega arith)) (c.requires.2.each l.x inside),
     )
@@ -24,7 +20,7 @@ pub loop-x-preserved : goal.loop-x-preserved
 loop-x-preserved g c =
     let l = c.loop-x in
     let V = g.S.Value.PlaneValue in
-    let sum = next_read g.S.Slope.sum c.args.sums.now l.sums l.invariant.1 c.index-sums-x.result (omega arith) in
+    let sum = next_read g.S.Slope.sum c.args.sums.now l.sums l.invariant c.index-sums-x.result (omega arith) in
     let enters = read V.value c.args.a.now (l.x + c.args.pa) c.index-a-x.result (omega arith) in
     let leaves = read V.value c.args.b.now (l.x + c.args.pb) c.index-b-x.result (omega arith) in
-    (omega arith, next_moved g.S.Slope.sum c.args.sums.now l.sums l.invariant.1 _ (omega arith) (c.gain.ensures ∙ ap₂ ◌+ℤ◌ sum (ap₂ ◌-ℤ◌ enters leaves)))
+    next_moved g.S.Slope.sum c.args.sums.now l.sums l.invariant _ (omega arith) (c.gain.ensures ∙ ap₂ ◌+ℤ◌ sum (ap₂ ◌-ℤ◌ enters leaves))

@@ -1,5 +1,4 @@
 -- What the loops of `leans::gather` keep. Assumes nothing.
-use Prim.Native.Nat.{◌≤◌}
 use mathlib.Core.List.{map}
 use Rattle.slopes.specs.Leans.{Moved, gathered}
 use Rattle.leans.proofs.gather.Given as goal
@@ -8,4 +7,4 @@ abbrev pub invariant-loop-x : goal.invariant-loop-x
 invariant-loop-x g l =
     let S = g.S.Slope in
     let V = g.S.Value.PlaneValue in
-    (l.x ≤ l.n) × Moved (gathered (map V.value l.a) (map V.value l.b) l.s l.pa l.pb (map S.sum l.initial.sums)) (map S.sum l.initial.sums) (map S.sum l.sums) l.s l.x
+    Moved (gathered (map V.value l.a) (map V.value l.b) l.s l.pa l.pb (map S.sum l.initial.sums)) (map S.sum l.initial.sums) (map S.sum l.sums) l.s l.x

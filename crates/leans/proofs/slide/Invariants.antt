@@ -1,5 +1,4 @@
 -- What the loops of `leans::slide` keep. Assumes nothing.
-use Prim.Native.Nat.{◌≤◌}
 use mathlib.Core.List.{map}
 use Rattle.slopes.specs.Leans.{Moved, slid}
 use Rattle.leans.proofs.slide.Given as goal
@@ -8,4 +7,4 @@ abbrev pub invariant-loop-x : goal.invariant-loop-x
 invariant-loop-x g l =
     let S = g.S.Slope in
     let V = g.S.Value.PlaneValue in
-    (l.x ≤ l.n) × Moved (slid (map V.value l.a) (map V.value l.b) (map V.value l.c) l.s l.pa l.pb l.pc l.pd (map S.sum l.initial.sums)) (map S.sum l.initial.sums) (map S.sum l.sums) l.s l.x
+    Moved (slid (map V.value l.a) (map V.value l.b) (map V.value l.c) l.s l.pa l.pb l.pc l.pd (map S.sum l.initial.sums)) (map S.sum l.initial.sums) (map S.sum l.sums) l.s l.x

@@ -5,6 +5,8 @@ use native.Mathlib.Nat.{mod-lt}
 use native.Mathlib.Omega.{arith}
 use native.Mathlib.Numerals.{add-one}
 use lib.ListN.{length, take, drop}
+use Rattle.picture.proofs.Found.{Checked, checked}
+use Rattle.picture.specs.Checked.{given, checked_inputs}
 use Rattle.numbers.proofs.Lines.{lines-all, line-end, line-next}
 use Rattle.numbers.proofs.Writes.{slice-length}
 use Rattle.picture.specs.Picture.{Inputs}
@@ -12,63 +14,67 @@ use Rattle.statistics.specs.SixSums.{on_plane, six_sums}
 use Rattle.statistics.specs.Moments.{mean}
 use Rattle.smoothed.specs.Smoothing.{alone, smoothed}
 use Rattle.blocks.specs.Blocks.{Held}
-use Rattle.mean_rows.proofs.RowMeans.{row_of, put-line, row-asked, row-mean}
+use Rattle.mean_rows.proofs.RowMeans.{alone-sums, row_of, put-line, row-asked, row-mean}
 use Rattle.mean_rows.proofs.every_row.Goals as goal
 
 pub row_means-requires : goal.row_means-requires
 row_means-requires c =
-    let ends : c.loop-i.start + c.args.size.columns ≤ length c.loop-i.out =
+    let ends : c.loop-i.start + c.args.inputs.now.source.size.columns ≤ length c.loop-i.out =
     let l = c.loop-i in
-    omega (arith, l.invariant.1, l.invariant.6, c.requires.picture.full, line-end l.i c.args.size.rows c.args.size.columns c.loop-i-test.true) in
-    let room : length (take (c.loop-i.start + c.args.size.columns - c.loop-i.start) (drop c.loop-i.start c.loop-i.out)) ≡ c.args.size.columns =
+    omega (arith, l.invariant.1, l.invariant.6, c.requires.picture.full, line-end l.i c.args.inputs.now.source.size.rows c.args.inputs.now.source.size.columns c.loop-i-test.true) in
+    let room : length (take (c.loop-i.start + c.args.inputs.now.source.size.columns - c.loop-i.start) (drop c.loop-i.start c.loop-i.out)) ≡ c.args.inputs.now.source.size.columns =
     let lo = c.loop-i.start in
-    let columns = c.args.size.columns in
+    let columns = c.args.inputs.now.source.size.columns in
     let span : lo + columns - lo ≡ columns = omega arith in
     slice-length lo (lo + columns) c.loop-i.out (omega arith) ends ∙ span in
     let counted = c.next in
+    let counted-sums = alone-sums (checked_inputs c.args.inputs.now) _ 0 c.on_plane-ones.ensures c.requires.picture.alone c.loop-i.i _ _ counted.ensures in
     let summed = c.next-in-loop-i in
-    let n = row_of (c.loop-i.i % 16) c.args.size.columns counted.new.block (counted.auto.block ∙ c.loop-i.invariant.4) (mod-lt c.loop-i.i (omega arith)) in
-    let m = row_of (c.loop-i.i % 16) c.args.size.columns summed.new.block (summed.auto.block ∙ c.loop-i.invariant.5) (mod-lt c.loop-i.i (omega arith)) in
-    row-asked c.args.size c.args.f.now c.args.window c.requires.picture.inputs c.loop-i.i c.loop-i-test.true _ _ _ n.size m.size room
-    (λ j h. n.each j h ∙ counted.ensures.sums j h) (λ j h. m.each j h ∙ summed.ensures.sums j h)
+    let summed-sums = alone-sums (checked_inputs c.args.inputs.now) _ 1 c.on_plane-levels.ensures c.requires.picture.alone c.loop-i.i _ _ summed.ensures in
+    let n = row_of (c.loop-i.i % 16) c.args.inputs.now.source.size.columns counted.new.block (counted.auto.block ∙ c.loop-i.invariant.4) (mod-lt c.loop-i.i (omega arith)) in
+    let m = row_of (c.loop-i.i % 16) c.args.inputs.now.source.size.columns summed.new.block (summed.auto.block ∙ c.loop-i.invariant.5) (mod-lt c.loop-i.i (omega arith)) in
+    row-asked c.args.inputs.now.source.size c.args.inputs.now.source.f.now (given c.args.inputs.now.window) (subst Checked c.requires.picture.alone (checked c.args.inputs.now)) c.loop-i.i c.loop-i-test.true _ _ _ n.size m.size room
+    (λ j h. n.each j h ∙ counted-sums.sums j h) (λ j h. m.each j h ∙ summed-sums.sums j h)
 
 pub loop-i-preserved : goal.loop-i-preserved
 loop-i-preserved c =
-    let given : Inputs = alone c.args.size c.args.f.now c.args.window in
-    let ends : c.loop-i.start + c.args.size.columns ≤ length c.loop-i.out =
+    let picture : Inputs = alone c.args.inputs.now.source.size c.args.inputs.now.source.f.now (given c.args.inputs.now.window) in
+    let ends : c.loop-i.start + c.args.inputs.now.source.size.columns ≤ length c.loop-i.out =
     let l = c.loop-i in
-    omega (arith, l.invariant.1, l.invariant.6, c.requires.picture.full, line-end l.i c.args.size.rows c.args.size.columns c.loop-i-test.true) in
-    let room : length (take (c.loop-i.start + c.args.size.columns - c.loop-i.start) (drop c.loop-i.start c.loop-i.out)) ≡ c.args.size.columns =
+    omega (arith, l.invariant.1, l.invariant.6, c.requires.picture.full, line-end l.i c.args.inputs.now.source.size.rows c.args.inputs.now.source.size.columns c.loop-i-test.true) in
+    let room : length (take (c.loop-i.start + c.args.inputs.now.source.size.columns - c.loop-i.start) (drop c.loop-i.start c.loop-i.out)) ≡ c.args.inputs.now.source.size.columns =
     let lo = c.loop-i.start in
-    let columns = c.args.size.columns in
+    let columns = c.args.inputs.now.source.size.columns in
     let span : lo + columns - lo ≡ columns = omega arith in
     slice-length lo (lo + columns) c.loop-i.out (omega arith) ends ∙ span in
     let l = c.loop-i in
-    let z = c.args.size in
+    let z = c.args.inputs.now.source.size in
     let counted = c.next in
+    let counted-sums = alone-sums (checked_inputs c.args.inputs.now) _ 0 c.on_plane-ones.ensures c.requires.picture.alone c.loop-i.i _ _ counted.ensures in
     let summed = c.next-in-loop-i in
+    let summed-sums = alone-sums (checked_inputs c.args.inputs.now) _ 1 c.on_plane-levels.ensures c.requires.picture.alone c.loop-i.i _ _ summed.ensures in
     let n = row_of (l.i % 16) z.columns counted.new.block (counted.auto.block ∙ l.invariant.4) (mod-lt l.i (omega arith)) in
     let m = row_of (l.i % 16) z.columns summed.new.block (summed.auto.block ∙ l.invariant.5) (mod-lt l.i (omega arith)) in
     let row = c.row_means in
     let i = l.i in (
-      put-line (λ i j. mean (six_sums given i j)) z.columns i l.start l.out row.new.out l.invariant.0 l.invariant.1 ends (row.auto.out ∙ room)
-          (row-mean z c.args.f.now c.args.window c.requires.picture.inputs i c.loop-i-test.true _ _ _ n.size m.size room (λ j h. n.each j h ∙ counted.ensures.sums j h) (λ j h. m.each j h ∙ summed.ensures.sums j h) row.new.out row.ensures),
+      put-line (λ i j. mean (six_sums picture i j)) z.columns i l.start l.out row.new.out l.invariant.0 l.invariant.1 ends (row.auto.out ∙ room)
+          (row-mean z c.args.inputs.now.source.f.now (given c.args.inputs.now.window) (subst Checked c.requires.picture.alone (checked c.args.inputs.now)) i c.loop-i-test.true _ _ _ n.size m.size room (λ j h. n.each j h ∙ counted-sums.sums j h) (λ j h. m.each j h ∙ summed-sums.sums j h) row.new.out row.ensures),
       omega (arith, l.invariant.1, line-next i z.columns),
       counted.auto.work ∙ l.invariant.2,
       summed.auto.work ∙ l.invariant.3,
       counted.auto.block ∙ l.invariant.4,
       summed.auto.block ∙ l.invariant.5,
       c.out-1.given.1 ∙ l.invariant.6,
-      subst (λ (k : ℕ). Held (on_plane given 0) k counted.new.work counted.new.block) (sym (add-one i)) counted.ensures.next,
-      subst (λ (k : ℕ). Held (on_plane given 1) k summed.new.work summed.new.block) (sym (add-one i)) summed.ensures.next,
+      subst (λ (k : ℕ). Held (on_plane picture 0) k counted.new.work counted.new.block) (sym (add-one i)) counted-sums.next,
+      subst (λ (k : ℕ). Held (on_plane picture 1) k summed.new.work summed.new.block) (sym (add-one i)) summed-sums.next,
       omega (arith, c.loop-i-test.true),
     )
 
 pub returns : goal.returns
 unfolding smoothed
 returns c =
-    let given : Inputs = alone c.args.size c.args.f.now c.args.window in
+    let picture : Inputs = alone c.args.inputs.now.source.size c.args.inputs.now.source.f.now (given c.args.inputs.now.window) in
     let l = c.loop-i in
-    let z = c.args.size in
+    let z = c.args.inputs.now.source.size in
     let e : l.i ≡ z.rows = omega (arith, l.invariant.9, c.loop-i-test.false) in
-    lines-all (λ i j. mean (six_sums given i j)) z.columns l.out z.rows (rw e at l.invariant.0) (l.invariant.6 ∙ c.requires.picture.full)
+    lines-all (λ i j. mean (six_sums picture i j)) z.columns l.out z.rows (rw e at l.invariant.0) (l.invariant.6 ∙ c.requires.picture.full)

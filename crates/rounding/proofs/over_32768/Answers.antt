@@ -1,12 +1,12 @@
 -- `rounding::over_32768` meets its contract. Assumes nothing.
 use mathlib.Core.Path.{◌≡◌, refl, ap, ◌∙◌}
 use mathlib.Core.Bool.{Bool, true, false}
-use Prim.Native.Nat.{ℕ, suc, ◌*◌, ◌^◌, ◌≤◌}
+use Prim.Native.Nat.{ℕ, suc, ◌*◌, ◌≤◌}
 use native.Mathlib.Omega.{arith}
 use native.Mathlib.Nat.{mul-pos}
-use lib.Dec.{T, lit<, le→leb, lt→ltb}
+use lib.Dec.{lit<}
 use lib.IntN.{ℤ, pos, negsuc, nat_abs}
-use lib.Ieee.{Float, nan, inf, fin, binary32, up, down, round, div, in_float, of_int, of_bits, unlike}
+use lib.Ieee.{Float, nan, inf, fin, binary32, up, down, round, div, of_int, of_bits, unlike}
 use lib.Ieee.Exact.{HasValue}
 use lib.Ieee.Scale.{round_same}
 use lib.Ieee.Back.{round_whole}
@@ -32,11 +32,6 @@ quotient : (m : ℤ) → nat_abs m ≤ 32768 → div binary32 (of_int binary32 m
 unfolding of_int of_bits over32768
 quotient (pos n) h = divide (round binary32 false n 1) false n (round_whole binary32 false n (omega arith))
 quotient (negsuc n) h = divide (round binary32 true (suc n) 1) true (suc n) (round_whole binary32 true (suc n) (omega arith))
-
-held : (m : ℤ) → nat_abs m ≤ 32768 → T (in_float binary32 m)
-unfolding in_float
-held (pos n) h = le→leb n (2 ^ 24) (omega arith)
-held (negsuc n) h = lt→ltb n (2 ^ 24) (omega arith)
 
 pub returns : goal.returns
 returns c = simp (to_z-of_z, c.ranges.m) (quotient c.args.m c.requires)

@@ -1,9 +1,7 @@
 -- What the loops of `row_totals::levels_total` keep. Assumes nothing.
-use Prim.Native.Nat.{◌≤◌}
-use lib.ListN.{length}
 use Rattle.numbers.proofs.Writes.{at}
 use Rattle.row_totals.proofs.Totals.{Exact}
 use Rattle.row_totals.proofs.levels_total.Given as goal
 
 abbrev pub invariant-loop-k : goal.invariant-loop-k
-invariant-loop-k l = (l.k ≤ length l.levels) × Exact (at l.levels) l.k l.s
+invariant-loop-k l = Exact (at l.levels) l.k l.s

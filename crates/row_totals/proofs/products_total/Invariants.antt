@@ -1,12 +1,10 @@
 -- What the loops of `row_totals::products_total` keep. Assumes nothing.
 use mathlib.Core.Path.{◌≡◌}
-use Prim.Native.Nat.{◌≤◌}
 use lib.IntN.{◌*ℤ◌}
-use lib.ListN.{length}
 use Rattle.numbers.specs.Sum.{sum_to}
 use Rattle.numbers.specs.Wrap.{wrap}
 use Rattle.numbers.proofs.Writes.{at}
 use Rattle.row_totals.proofs.products_total.Given as goal
 
 abbrev pub invariant-loop-k : goal.invariant-loop-k
-invariant-loop-k l = (l.k ≤ length l.a) × (l.s ≡ wrap (sum_to l.k (λ n. at l.a n *ℤ at l.b n)))
+invariant-loop-k l = l.s ≡ wrap (sum_to l.k (λ n. at l.a n *ℤ at l.b n))

@@ -1,91 +1,95 @@
 -- `search::by_blocks` meets its contract. Assumes nothing.
-use mathlib.Core.Path.{◌≡◌, refl, sym, ap, ◌∙◌}
-use Prim.Native.Nat.{◌-◌, ◌*◌, ◌%◌, ◌≤◌}
+use mathlib.Core.Path.{◌≡◌, refl, sym, ap, subst, ◌∙◌}
+use Prim.Native.Nat.{ℕ, ◌+◌, ◌-◌, ◌*◌, ◌%◌, ◌≤◌, ◌<◌}
 use native.Mathlib.Nat.{mul-le-mul_right}
 use native.Mathlib.Omega.{arith}
-use Rattle.picture.specs.Given.{inputs_of}
+use Rattle.picture.proofs.Found.{limits, checked}
+use Rattle.picture.specs.Answers.{option_of}
+use Rattle.picture.specs.Checked.{checked_inputs}
 use Rattle.picture.specs.Picture.{Inputs}
-use Rattle.picture.proofs.Refusals.{in-limits}
-use Rattle.statistics.specs.SixSums.{on_plane}
-use Rattle.blocks.specs.Blocks.{rows_in, Block}
-use Rattle.blocks.proofs.RowSums.{block_of}
+use Rattle.blocks.specs.Blocks.{rows_in}
 use Rattle.hearing.proofs.Searching.{no_row}
-use Rattle.search.proofs.Searching.{steady_at, whole-search}
-use Rattle.search.proofs.BlockRows.{few, start-behind, ready-behind, possible, in_block, behind-block}
+use Rattle.search.proofs.Kept.{Before}
+use Rattle.search.proofs.Searching.{steady_at, whole-search, found-within}
+use Rattle.search.proofs.BlockRows.{Blocks, blocks-at, few, same-behind, start-behind, ready-behind, possible, in_block, behind-block}
 use Rattle.search.proofs.by_blocks.Goals as goal
 
-pub loop-i-init : goal.loop-i-init
-loop-i-init c =
-    let given : Inputs = inputs_of c.args.inputs.now in
-    record {
-      same = whole-search given;
-      start = λ h. refl;
-      ready_counts = tt;
-      ready_totals = tt;
-      ready_squares = tt;
-      room_counts = c.requires.room_counts;
-      room_totals = c.requires.room_totals;
-      room_squares = c.requires.room_squares;
-      room_n = c.requires.room_n;
-      room_s = c.requires.room_s;
-      room_a = c.requires.room_a;
-    }
+pub loop-block-init : goal.loop-block-init
+loop-block-init c = record {
+  same = whole-search (checked_inputs c.args.inputs.now);
+  start = refl;
+  ready_counts = λ h. tt;
+  ready_totals = λ h. tt;
+  ready_squares = λ h. tt;
+  room_counts = c.requires.room_counts;
+  room_totals = c.requires.room_totals;
+  room_squares = c.requires.room_squares;
+  room_n = c.requires.room_n;
+  room_s = c.requires.room_s;
+  room_a = c.requires.room_a;
+}
 
-pub first-cell-requires : goal.first-cell-requires
-first-cell-requires c =
-    let given : Inputs = inputs_of c.args.inputs.now in
-    let start : c.loop-i.i % 16 ≡ 0 = c.loop-i.invariant.start c.loop-i-test.true in
-    let counted : Block (on_plane given 0) c.loop-i.i c.next.new.work c.next.new.block = block_of (on_plane given 0) c.loop-i.i start _ _ c.next.ensures in
-    let summed : Block (on_plane given 1) c.loop-i.i c.next-in-loop-i.new.work c.next-in-loop-i.new.block = block_of (on_plane given 1) c.loop-i.i start _ _ c.next-in-loop-i.ensures in
-    let squared : Block (on_plane given 3) c.loop-i.i c.next-in-loop-i-2.new.work c.next-in-loop-i-2.new.block = block_of (on_plane given 3) c.loop-i.i start _ _ c.next-in-loop-i-2.ensures in
-    let count-is : c.high.result - c.loop-i.i ≡ rows_in given c.loop-i.i = rw c.high.ensures in
-    let room : (c.high.result - c.loop-i.i) * c.args.inputs.now.source.size.columns ≤ 16 * c.args.inputs.now.source.size.columns = mul-le-mul_right c.args.inputs.now.source.size.columns (few given c.requires.inputs c.loop-i.i _ c.loop-i-test.true count-is) in
-    let l = c.loop-i in
+pub first-requires : goal.first-requires
+first-requires c =
+    let given : Inputs = checked_inputs c.args.inputs.now in
+    let i : ℕ = 16 * c.loop-block.block in
+    let below : i < c.args.inputs.now.source.size.rows = omega (arith, c.loop-block-test.true, c.div_ceil-block-end.ensures) in
+    let is : c.high.result - i ≡ rows_in given i = rw c.high.ensures in
+    let b = blocks-at given _ _ _ c.on_plane-ones.ensures c.on_plane-levels.ensures c.on_plane-level_squares.ensures i c.loop-block.invariant.start _ _ _ _ _ _ c.next.ensures c.next-in-loop-block.ensures c.next-in-loop-block-2.ensures in
+    let room : (c.high.result - i) * c.args.inputs.now.source.size.columns ≤ 16 * c.args.inputs.now.source.size.columns = mul-le-mul_right c.args.inputs.now.source.size.columns (few given (checked c.args.inputs.now) i _ below is) in
+    let l = c.loop-block in
     record {
-      few = omega (arith, room, (in-limits c.args.inputs.now.source.size c.requires.inputs.size).few_columns);
+      few = omega (arith, room, (limits c.args.inputs.now.source).few_columns);
       room_n = omega (arith, room, c.next.auto.block, l.invariant.room_n);
-      room_s = omega (arith, room, c.next-in-loop-i.auto.block, l.invariant.room_s);
-      room_a = omega (arith, room, c.next-in-loop-i-2.auto.block, l.invariant.room_a);
-      possible = possible given c.requires.inputs l.i (c.high.result - l.i) c.loop-i-test.true count-is _ _ _ _ _ _ counted summed squared;
+      room_s = omega (arith, room, c.next-in-loop-block.auto.block, l.invariant.room_s);
+      room_a = omega (arith, room, c.next-in-loop-block-2.auto.block, l.invariant.room_a);
+      possible = possible given (checked c.args.inputs.now) i (c.high.result - i) below is _ _ _ _ _ _ b;
     }
 
-pub returns-then-row-count : goal.returns-then-row-count
-returns-then-row-count c =
-    let given : Inputs = inputs_of c.args.inputs.now in
-    let start : c.loop-i.i % 16 ≡ 0 = c.loop-i.invariant.start c.loop-i-test.true in
-    let counted : Block (on_plane given 0) c.loop-i.i c.next.new.work c.next.new.block = block_of (on_plane given 0) c.loop-i.i start _ _ c.next.ensures in
-    let summed : Block (on_plane given 1) c.loop-i.i c.next-in-loop-i.new.work c.next-in-loop-i.new.block = block_of (on_plane given 1) c.loop-i.i start _ _ c.next-in-loop-i.ensures in
-    let squared : Block (on_plane given 3) c.loop-i.i c.next-in-loop-i-2.new.work c.next-in-loop-i-2.new.block = block_of (on_plane given 3) c.loop-i.i start _ _ c.next-in-loop-i-2.ensures in
-    let count-is : c.high.result - c.loop-i.i ≡ rows_in given c.loop-i.i = rw c.high.ensures in
-    let l = c.loop-i in
-    sym (in_block given c.requires.inputs l.i (c.high.result - l.i) c.loop-i-test.true count-is _ _ _ _ _ _ counted summed squared c.first-cell.result c.first-cell.ensures c.if-row-count.true) ∙ l.invariant.same
+pub overflow_add-result : goal.overflow_add-result
+overflow_add-result c =
+    let inside = found-within _ _ _ _ _ (sym c.first.ensures ∙ ap option_of c.in-Some.is) in
+    let limit = limits c.args.inputs.now.source in
+    record { fits = omega (arith, inside, c.high.ensures, c.loop-block-test.true, c.div_ceil-block-end.ensures, limit.few_rows) }
 
-pub loop-i-preserved : goal.loop-i-preserved
-loop-i-preserved c =
-    let given : Inputs = inputs_of c.args.inputs.now in
-    let start : c.loop-i.i % 16 ≡ 0 = c.loop-i.invariant.start c.loop-i-test.true in
-    let counted : Block (on_plane given 0) c.loop-i.i c.next.new.work c.next.new.block = block_of (on_plane given 0) c.loop-i.i start _ _ c.next.ensures in
-    let summed : Block (on_plane given 1) c.loop-i.i c.next-in-loop-i.new.work c.next-in-loop-i.new.block = block_of (on_plane given 1) c.loop-i.i start _ _ c.next-in-loop-i.ensures in
-    let squared : Block (on_plane given 3) c.loop-i.i c.next-in-loop-i-2.new.work c.next-in-loop-i-2.new.block = block_of (on_plane given 3) c.loop-i.i start _ _ c.next-in-loop-i-2.ensures in
-    let count-is : c.high.result - c.loop-i.i ≡ rows_in given c.loop-i.i = rw c.high.ensures in
-    let l = c.loop-i in
-    let m = c.high.result - l.i in
-    record {
-      same = sym (behind-block given c.requires.inputs l.i m c.loop-i-test.true count-is _ _ _ _ _ _ counted summed squared c.first-cell.result c.first-cell.ensures c.if-row-count.false) ∙ l.invariant.same;
-      start = start-behind given c.requires.inputs l.i m c.loop-i-test.true count-is start;
-      ready_counts = ready-behind given c.requires.inputs l.i m c.loop-i-test.true count-is 0 _ _ counted;
-      ready_totals = ready-behind given c.requires.inputs l.i m c.loop-i-test.true count-is 1 _ _ summed;
-      ready_squares = ready-behind given c.requires.inputs l.i m c.loop-i-test.true count-is 3 _ _ squared;
+pub returns-in-Some : goal.returns-in-Some
+returns-in-Some c =
+    let given : Inputs = checked_inputs c.args.inputs.now in
+    let i : ℕ = 16 * c.loop-block.block in
+    let below : i < c.args.inputs.now.source.size.rows = omega (arith, c.loop-block-test.true, c.div_ceil-block-end.ensures) in
+    let is : c.high.result - i ≡ rows_in given i = rw c.high.ensures in
+    let b = blocks-at given _ _ _ c.on_plane-ones.ensures c.on_plane-levels.ensures c.on_plane-level_squares.ensures i c.loop-block.invariant.start _ _ _ _ _ _ c.next.ensures c.next-in-loop-block.ensures c.next-in-loop-block-2.ensures in
+    sym (in_block given (checked c.args.inputs.now) i (c.high.result - i) below is _ _ _ _ _ _ b (option_of c.first.result) c.first.ensures _ (ap option_of c.in-Some.is)) ∙ c.loop-block.invariant.same
+
+pub loop-block-preserved : goal.loop-block-preserved
+loop-block-preserved c =
+    let given : Inputs = checked_inputs c.args.inputs.now in
+    let i : ℕ = 16 * c.loop-block.block in
+    let below : i < c.args.inputs.now.source.size.rows = omega (arith, c.loop-block-test.true, c.div_ceil-block-end.ensures) in
+    let is : c.high.result - i ≡ rows_in given i = rw c.high.ensures in
+    let b = blocks-at given _ _ _ c.on_plane-ones.ensures c.on_plane-levels.ensures c.on_plane-level_squares.ensures i c.loop-block.invariant.start _ _ _ _ _ _ c.next.ensures c.next-in-loop-block.ensures c.next-in-loop-block-2.ensures in
+    let l = c.loop-block in
+    let checks = checked c.args.inputs.now in
+    let m = c.high.result - i in
+    let on : i + 16 ≡ 16 * (l.block + 1) = omega arith in
+    let before : Before given c.next.new.work c.next-in-loop-block.new.work c.next-in-loop-block-2.new.work c.next.new.block c.next-in-loop-block.new.block c.next-in-loop-block-2.new.block (i + 16) = record {
+      same = sym (behind-block given checks i m below is _ _ _ _ _ _ b (option_of c.first.result) c.first.ensures (ap option_of c.in_default.is) ∙ same-behind given checks i m below is) ∙ l.invariant.same;
+      start = start-behind given checks i m below is l.invariant.start;
+      ready_counts = ready-behind given checks i m below is 0 _ _ b.counted;
+      ready_totals = ready-behind given checks i m below is 1 _ _ b.summed;
+      ready_squares = ready-behind given checks i m below is 3 _ _ b.squared;
       room_counts = c.next.auto.work ∙ l.invariant.room_counts;
-      room_totals = c.next-in-loop-i.auto.work ∙ l.invariant.room_totals;
-      room_squares = c.next-in-loop-i-2.auto.work ∙ l.invariant.room_squares;
+      room_totals = c.next-in-loop-block.auto.work ∙ l.invariant.room_totals;
+      room_squares = c.next-in-loop-block-2.auto.work ∙ l.invariant.room_squares;
       room_n = c.next.auto.block ∙ l.invariant.room_n;
-      room_s = c.next-in-loop-i.auto.block ∙ l.invariant.room_s;
-      room_a = c.next-in-loop-i-2.auto.block ∙ l.invariant.room_a;
-    }
+      room_s = c.next-in-loop-block.auto.block ∙ l.invariant.room_s;
+      room_a = c.next-in-loop-block-2.auto.block ∙ l.invariant.room_a;
+    } in
+    subst (Before given _ _ _ _ _ _) on before
 
 pub returns : goal.returns
 returns c =
-    let given : Inputs = inputs_of c.args.inputs.now in
-    let l = c.loop-i in
-    sym (no_row (steady_at given) c.args.inputs.now.source.size.columns l.i c.args.inputs.now.source.size.rows c.loop-i-test.false) ∙ l.invariant.same
+    let given : Inputs = checked_inputs c.args.inputs.now in
+    let l = c.loop-block in
+    let end : c.args.inputs.now.source.size.rows ≤ 16 * l.block = omega (arith, c.loop-block-test.false, c.div_ceil-block-end.ensures) in
+    sym (no_row (steady_at given) c.args.inputs.now.source.size.columns (16 * l.block) c.args.inputs.now.source.size.rows end) ∙ l.invariant.same

@@ -6,12 +6,12 @@ use native.Mathlib.Omega.{arith}
 use lib.IntN.{ℤ}
 use lib.ListN.{length}
 use borrow.Rule.Slice.PartMut.{put_mid}
+use Rattle.picture.proofs.Found.{limits}
 use Rattle.numbers.specs.Wrap.{wrap}
 use Rattle.numbers.proofs.Writes.{at, tabulate-at, slice-length, part_length}
 use Rattle.picture.specs.Window.{shape_of, depth}
 use Rattle.picture.specs.Picture.{plane_at}
-use Rattle.picture.specs.Given.{source_of}
-use Rattle.picture.proofs.Refusals.{in-limits}
+use Rattle.picture.specs.Checked.{given, checked_source}
 use Rattle.picture.proofs.Windows.{depth_small}
 use Rattle.session.specs.Rows.{enter_leave}
 use Rattle.slanted.proofs.EdgeRows.{edge-done}
@@ -20,13 +20,9 @@ use Rattle.slanted.proofs.edge.Goals as goal
 pub gain-requires : goal.gain-requires
 gain-requires c =
     let distance : ℕ = c.args.c in
-    let x = c.requires.step.inputs in
     record {
-      size = x.size;
-      length_f = x.length_f;
-      length_g = x.length_g;
-      row = omega (arith, c.requires.step.row, (in-limits c.args.inputs.now.source.size x.size).few_rows);
-      distance = omega (arith, c.depth.ensures, depth_small c.args.inputs.now.window x.window c.args.c);
+      row = omega (arith, c.requires.step.row, (limits c.args.inputs.now.source).few_rows);
+      distance = omega (arith, c.depth.ensures, depth_small (given c.args.inputs.now.window) c.args.inputs.now.window.legal c.args.c);
       room = c.requires.step.room;
     }
 
@@ -42,9 +38,9 @@ returns c =
     let length-behind : length behind ≡ columns - distance = c.add.auto.work ∙ slice-length distance columns c.args.work.now (omega (arith, c.requires.few)) (omega (arith, c.requires.step.room_work)) in
     let length-once : length once ≡ columns = part_length distance columns c.args.work.now behind (omega (arith, c.requires.few)) (omega (arith, c.requires.step.room_work)) length-behind ∙ c.requires.step.room_work in
     let length_before : length before-it ≡ columns - distance - 0 = c.add-2.auto.work ∙ slice-length 0 (columns - distance) once (omega arith) (omega (arith, length-once)) in
-    let entering : ℕ → ℤ = enter_leave c.args.inputs.now.source.size (plane_at (source_of c.args.inputs.now.source)) c.args.i (depth (shape_of c.args.inputs.now.window) distance) in
+    let entering : ℕ → ℤ = enter_leave c.args.inputs.now.source.size (plane_at (checked_source c.args.inputs.now.source)) c.args.i (depth (shape_of (given c.args.inputs.now.window)) distance) in
     let changes-at : (k : ℕ) → k < columns → at changes k ≡ wrap (entering k) =
     λ k k-below. tabulate-at changes _ _ c.gain.ensures k (omega (arith, length-changes))
-    ∙ ap (λ (d : ℕ). wrap (enter_leave c.args.inputs.now.source.size (plane_at (source_of c.args.inputs.now.source)) c.args.i d k)) c.depth.ensures in
+    ∙ ap (λ (d : ℕ). wrap (enter_leave c.args.inputs.now.source.size (plane_at (checked_source c.args.inputs.now.source)) c.args.i d k)) c.depth.ensures in
     edge-done columns distance _ _ c.args.work.now changes behind before-it entering c.requires.some c.requires.few
     c.requires.step.room_work length-changes c.requires.wrapped changes-at c.add.ensures length-behind c.add-2.ensures length_before

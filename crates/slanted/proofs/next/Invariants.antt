@@ -4,9 +4,9 @@ use Prim.Native.Nat.{◌-◌, ◌≤◌}
 use lib.ListN.{length}
 use Rattle.picture.specs.Window.{shape_of}
 use Rattle.picture.specs.Picture.{plane_at}
-use Rattle.picture.specs.Given.{source_of}
+use Rattle.picture.specs.Checked.{given, checked_source}
 use Rattle.slanted.proofs.EdgeRows.{later}
 use Rattle.slanted.proofs.next.Given as goal
 
 abbrev pub invariant-loop-c : goal.invariant-loop-c
-invariant-loop-c l = (1 ≤ l.c) × (l.c ≤ l.end) × (length l.row ≡ l.inputs.source.size.columns) × (l.work ≡ later l.inputs.source.size (plane_at (source_of l.inputs.source)) (shape_of l.inputs.window) l.i l.initial.work l.initial.work (l.c - 1))
+invariant-loop-c l = (1 ≤ l.c) × (l.c ≤ l.end) × (length l.row ≡ l.inputs.source.size.columns) × (l.work ≡ later l.inputs.source.size (plane_at (checked_source l.inputs.source)) (shape_of (given l.inputs.window)) l.i l.initial.work l.initial.work (l.c - 1))

@@ -1,17 +1,33 @@
 -- `smoothing::check_steady` meets its contract. Assumes nothing.
-use Rattle.picture.proofs.Refusals.{refuses-here, passes-here, line-refuses, line-passes, line-last}
+use mathlib.Core.Path.{ap₂, ◌∙◌}
+use lib.Dec.{eqb}
+use Rattle.picture.specs.declared.Window.{Window}
+use Rattle.picture.specs.Picture.{Source, Inputs}
+use Rattle.picture.proofs.Refusals.{stops-here, passes-here, refuses, answers, refused-tells, answered-tells}
+use Rattle.smoothing.proofs.Taken.{plane-0}
 use Rattle.smoothing.proofs.check_steady.Goals as goal
 
-pub returns-in_err-check_pictures : goal.returns-in_err-check_pictures
-returns-in_err-check_pictures c = refuses-here _ _ _ _ c.in_err-check_pictures.ensures c.from_residual.ensures.1
+abbrev whole : Source → Window → Inputs
+whole s w = record { source = s; window = w }
 
-pub returns-in_err-require : goal.returns-in_err-require
-returns-in_err-require c =
-    passes-here _ _ _ c.in_ok-check_pictures.ensures
-    (line-refuses _ _ _ _ _ _ c.window_legal.ensures c.in_err-require.ensures c.from_residual-in_err-require.ensures.1)
+pub returns-in_err-check_pictures : goal.returns-in_err-check_pictures
+returns-in_err-check_pictures c = refuses _ _ _ _ _ (stops-here _ _ _ c.in_err-check_pictures.ensures) c.from_residual.ensures.1
+
+pub returns-in_err-window : goal.returns-in_err-window
+returns-in_err-window c =
+    refuses _ _ _ _ _
+    (passes-here _ _ _ c.in_ok-check_pictures.ensures (stops-here _ _ _ (refused-tells _ _ _ c.in_err-window.ensures)))
+    c.from_residual-in_err-window.ensures.1
+
+pub returns-in_err-source : goal.returns-in_err-source
+returns-in_err-source c =
+    let window = answered-tells _ _ _ c.in_ok-window.ensures in
+    refuses _ _ _ _ _
+    (passes-here _ _ _ c.in_ok-check_pictures.ensures (passes-here _ _ _ window.0 (refused-tells _ _ _ c.in_err-source.ensures ∙ plane-0 _)))
+    c.from_residual-in_err-source.ensures.1
 
 pub returns : goal.returns
 returns c =
-    passes-here _ _ _ c.in_ok-check_pictures.ensures
-    (line-passes _ _ _ _ _ c.window_legal.ensures c.in_ok-require.ensures
-    (line-last _ _ _ _ c.shift_legal.ensures c.require-2.ensures))
+    let window = answered-tells _ _ _ c.in_ok-window.ensures in
+    let source = answered-tells _ _ _ c.in_ok-source.ensures in
+    answers _ _ _ (passes-here _ _ _ c.in_ok-check_pictures.ensures (passes-here _ _ _ window.0 (source.0 ∙ plane-0 _))) (ap₂ whole source.1 window.1)

@@ -1,5 +1,6 @@
 -- `edges::rows::after` meets its contract. Assumes nothing.
 use mathlib.Core.Path.{◌≡◌, refl, ◌∙◌}
+use Rattle.picture.proofs.Found.{limits, checked}
 use Rattle.std.proofs.Common.{rules}
 use Prim.Native.Nat.{ℕ, ◌+◌, ◌-◌, ◌≤◌}
 use native.Mathlib.Omega.{arith}
@@ -7,8 +8,7 @@ use lib.ListN.{length}
 use Rattle.numbers.proofs.Writes.{slice-length}
 use Rattle.picture.specs.Window.{shape_of}
 use Rattle.picture.specs.Picture.{Source, source, plane_at}
-use Rattle.picture.specs.Given.{source_of}
-use Rattle.picture.proofs.Refusals.{in-limits}
+use Rattle.picture.specs.Checked.{given, checked_source}
 use Rattle.numbers.proofs.Lines.{line-end}
 use Rattle.slopes.specs.Slopes.{padded}
 use Rattle.kept_slopes.proofs.Kept.{slopes-begin, holds-begin}
@@ -18,7 +18,7 @@ use Rattle.edges.proofs.rows.after.Goals as goal
 
 pub loop-m-init : goal.loop-m-init
 loop-m-init g c =
-    let pictures : Source = source_of c.args.inputs.now.source in
+    let pictures : Source = checked_source c.args.inputs.now.source in
     let h : ℕ = c.height-h.result in
     let w : ℕ = c.width-w.result in
     let high = c.height-h.ensures in (
@@ -34,11 +34,11 @@ loop-m-init g c =
 
 pub row-requires : goal.row-requires
 row-requires g c =
-    let pictures : Source = source_of c.args.inputs.now.source in
+    let pictures : Source = checked_source c.args.inputs.now.source in
     let h : ℕ = c.height-h.result in
     let w : ℕ = c.width-w.result in
-    let fits = window-fits _ _ _ c.requires.many.inputs c.requires.many.slanted c.height-h.ensures c.width-w.ensures in
-    let edges = edges-asked _ _ _ c.requires.many.inputs c.requires.many.slanted c.height-h.ensures c.width-w.ensures in
+    let fits = window-fits _ _ _ (checked c.args.inputs.now) c.requires.many.slanted c.height-h.ensures c.width-w.ensures in
+    let edges = edges-asked _ _ _ (checked c.args.inputs.now) c.requires.many.slanted c.height-h.ensures c.width-w.ensures in
     let ends : c.loop-m.begin + c.args.inputs.now.source.size.columns ≤ length c.loop-m.out =
     let l = c.loop-m in
     omega (arith, l.invariant.1, l.invariant.2, c.requires.many.room, line-end l.m c.args.n c.args.inputs.now.source.size.columns c.loop-m-test.true) in
@@ -53,7 +53,7 @@ row-requires g c =
           plane = c.requires.plane;
           row = record {
             edges = edges (c.args.i + l.m) (omega (arith, c.requires.many.rows, inside));
-            turn = omega (arith, c.requires.many.rows, inside, (in-limits z c.requires.many.inputs.size).few_rows);
+            turn = omega (arith, c.requires.many.rows, inside, (limits c.args.inputs.now.source).few_rows);
             rows = l.invariant.5;
             slopes = l.invariant.6;
             room_work = l.invariant.3;
@@ -66,7 +66,7 @@ row-requires g c =
 
 pub loop-m-preserved : goal.loop-m-preserved
 loop-m-preserved g c =
-    let pictures : Source = source_of c.args.inputs.now.source in
+    let pictures : Source = checked_source c.args.inputs.now.source in
     let h : ℕ = c.height-h.result in
     let w : ℕ = c.width-w.result in
     let ends : c.loop-m.begin + c.args.inputs.now.source.size.columns ≤ length c.loop-m.out =
@@ -90,13 +90,13 @@ loop-m-preserved g c =
 
 pub returns : goal.returns
 returns g c =
-    let pictures : Source = source_of c.args.inputs.now.source in
+    let pictures : Source = checked_source c.args.inputs.now.source in
     let h : ℕ = c.height-h.result in
     let w : ℕ = c.width-w.result in
-    let fits = window-fits _ _ _ c.requires.many.inputs c.requires.many.slanted c.height-h.ensures c.width-w.ensures in
+    let fits = window-fits _ _ _ (checked c.args.inputs.now) c.requires.many.slanted c.height-h.ensures c.width-w.ensures in
     let l = c.loop-m in
-    passed-all pictures h w c.args.i c.args.n l.m c.args.work.now l.work l.out (shape_of c.args.inputs.now.window) fits l.invariant.4 (omega (arith, l.invariant.0, c.loop-m-test.false)) (l.invariant.2 ∙ c.requires.many.room)
+    passed-all pictures h w c.args.i c.args.n l.m c.args.work.now l.work l.out (shape_of (given c.args.inputs.now.window)) fits l.invariant.4 (omega (arith, l.invariant.0, c.loop-m-test.false)) (l.invariant.2 ∙ c.requires.many.room)
 
 pub overflow_add-i : goal.overflow_add-i
 overflow_add-i g c =
-    record { fits = omega (arith, c.requires.many.rows, c.loop-m-test.true, (in-limits c.args.inputs.now.source.size c.requires.many.inputs.size).few_rows) }
+    record { fits = omega (arith, c.requires.many.rows, c.loop-m-test.true, (limits c.args.inputs.now.source).few_rows) }

@@ -3,15 +3,14 @@ use mathlib.Core.Path.{◌≡◌, refl, ◌∙◌}
 use Prim.Native.Nat.{ℕ, ◌+◌, ◌-◌, ◌*◌, ◌≤◌}
 use native.Mathlib.Omega.{arith}
 use lib.ListN.{length}
+use Rattle.picture.proofs.Found.{limits, checked, pictures}
 use Rattle.numbers.proofs.Writes.{slice-length}
 use Rattle.picture.specs.Picture.{Source, Inputs, source, inputs, plane_at}
-use Rattle.picture.specs.Given.{source_of, inputs_of}
+use Rattle.picture.specs.Checked.{given, checked_source, checked_inputs}
 use Rattle.picture.proofs.Planes.{plane-beside}
-use Rattle.picture.proofs.Refusals.{in-limits}
 use Rattle.picture.proofs.Windows.{height-small}
 use Rattle.slopes.specs.Slopes.{padded}
 use Rattle.kept_slopes.proofs.Kept.{blank_of}
-use Rattle.kept_slopes.proofs.Asks.{load-asked}
 use Rattle.kept_slopes.proofs.Across.{behind-fits, rows-done}
 use Rattle.edges.proofs.Asked.{edges-asked}
 use Rattle.edges.proofs.Zeros.{blank, no-slopes}
@@ -19,10 +18,10 @@ use Rattle.edges.proofs.rows.rows_from.Goals as goal
 
 pub start-requires : goal.start-requires
 start-requires g c =
-    let pictures : Source = source_of c.args.inputs.now.source in
+    let pictures : Source = checked_source c.args.inputs.now.source in
     let h : ℕ = c.height-h.result in
     let w : ℕ = c.width-w.result in
-    let edges = edges-asked _ _ _ c.requires.inputs c.requires.slanted c.height-h.ensures c.width-w.ensures in (
+    let edges = edges-asked _ _ _ (checked c.args.inputs.now) c.requires.slanted c.height-h.ensures c.width-w.ensures in (
       g.met.S.Value.PlaneValue.row_fits,
       (
         g.met.S.Slope.slopes_fit,
@@ -39,22 +38,22 @@ start-requires g c =
     )
 
 pub overflow_add-i : goal.overflow_add-i
-overflow_add-i g c = omega (arith, c.requires.rows, (in-limits c.args.inputs.now.source.size c.requires.inputs.size).few_rows)
+overflow_add-i g c = omega (arith, c.requires.rows, (limits c.args.inputs.now.source).few_rows)
 
 pub overflow_sub-i : goal.overflow_sub-i
-overflow_sub-i g c = omega (arith, c.height-h.ensures, height-small c.args.inputs.now.window c.requires.inputs.window)
+overflow_sub-i g c = omega (arith, c.height-h.ensures, height-small (given c.args.inputs.now.window) c.args.inputs.now.window.legal)
 
 pub load-requires : goal.load-requires
 load-requires g c =
-    let pictures : Source = source_of c.args.inputs.now.source in
+    let pictures : Source = checked_source c.args.inputs.now.source in
     let h : ℕ = c.height-h.result in
     let w : ℕ = c.width-w.result in
-    let edges = edges-asked _ _ _ c.requires.inputs c.requires.slanted c.height-h.ensures c.width-w.ensures in
-    (g.met.S.Value.PlaneValue.row_fits, (c.requires.plane, load-asked pictures c.args.i h w (edges c.args.i (omega (arith, c.requires.rows))) (blank g.S.Value.PlaneValue.value 1536 refl c.args.inputs.now.source.size.columns c.zero-c.result c.zero-c.ensures)))
+    let edges = edges-asked _ _ _ (checked c.args.inputs.now) c.requires.slanted c.height-h.ensures c.width-w.ensures in
+    (g.met.S.Value.PlaneValue.row_fits, (c.requires.plane, blank g.S.Value.PlaneValue.value 1536 refl c.args.inputs.now.source.size.columns c.zero-c.result c.zero-c.ensures))
 
 pub after-requires : goal.after-requires
 after-requires g c =
-    let pictures : Source = source_of c.args.inputs.now.source in
+    let pictures : Source = checked_source c.args.inputs.now.source in
     let h : ℕ = c.height-h.result in
     let fits : (c.top_row-begin.result ≤ length c.args.out.now) × (length c.args.out.now - c.top_row-begin.result ≡ c.args.n * c.args.inputs.now.source.size.columns) =
     let top = c.top_row-begin.ensures in
@@ -73,7 +72,6 @@ after-requires g c =
         record {
           plane = c.requires.plane;
           many = record {
-            inputs = c.requires.inputs;
             slanted = c.requires.slanted;
             rows = c.requires.rows;
             room_work = top.auto.work ∙ c.requires.room_work;
@@ -91,7 +89,7 @@ returns g c =
     let fits : (c.top_row-begin.result ≤ length c.args.out.now) × (length c.args.out.now - c.top_row-begin.result ≡ c.args.n * c.args.inputs.now.source.size.columns) =
     let top = c.top_row-begin.ensures in
     behind-fits c.args.fresh c.top_row-begin.result c.args.inputs.now.source.size.columns c.args.n (length c.args.out.now) top.begins top.none c.requires.room_fresh c.requires.room_behind in
-    let x : Inputs = inputs_of c.args.inputs.now in
+    let x : Inputs = checked_inputs c.args.inputs.now in
     let top = c.top_row-begin in
     let rest = c.after in
     let end = length c.args.out.now in

@@ -1,5 +1,6 @@
 -- `edges::rows::top_row` meets its contract. Assumes nothing.
 use mathlib.Core.Path.{◌≡◌, refl, sym, ◌∙◌}
+use Rattle.picture.proofs.Found.{limits, checked}
 use Rattle.std.proofs.Common.{rules}
 use Prim.Native.Nat.{◌-◌}
 use native.Mathlib.Omega.{arith}
@@ -10,7 +11,7 @@ use mir.Val.{SFits}
 use Rattle.numbers.proofs.Tests.{of-not}
 use Rattle.numbers.proofs.Writes.{slice-length}
 use Rattle.picture.specs.Picture.{Inputs, inputs}
-use Rattle.picture.specs.Given.{inputs_of}
+use Rattle.picture.specs.Checked.{checked_inputs}
 use Rattle.picture.proofs.Refusals.{in-limits}
 use Rattle.kept_slopes.proofs.Across.{fresh-row, row-front, on-and-off}
 use Rattle.std.proofs.Common.{ap, not}
@@ -18,18 +19,8 @@ use Rattle.edges.proofs.rows.top_row.Goals as goal
 
 pub sum-sum-requires : goal.sum-sum-requires
 sum-sum-requires g c =
-    let x = c.requires.inputs in
-    let z = in-limits c.args.inputs.now.source.size x.size in
-    record {
-      size = x.size;
-      length_f = x.length_f;
-      length_g = x.length_g;
-      levels_f = x.levels_f;
-      levels_g = x.levels_g;
-      window = x.window;
-      row_inside = z.some_rows;
-      column_inside = z.some_columns;
-    }
+    let z = limits c.args.inputs.now.source in
+    record { row_inside = z.some_rows; column_inside = z.some_columns }
 
 pub first-requires : goal.first-requires
 first-requires g c =
@@ -38,14 +29,14 @@ first-requires g c =
       record {
         length_rises = c.requires.length_rises;
         length_falls = c.requires.length_falls;
-        few = omega (arith, c.requires.room_work, (in-limits c.args.inputs.now.source.size c.requires.inputs.size).few_columns);
+        few = omega (arith, c.requires.room_work, (limits c.args.inputs.now.source).few_columns);
         room = slice-length 0 c.args.inputs.now.source.size.columns c.args.out.now (omega arith) (c.requires.room t) ∙ omega (arith, c.requires.room_work);
       },
     )
 
 pub returns : goal.returns
 returns g c =
-    let x : Inputs = inputs_of c.args.inputs.now in
+    let x : Inputs = checked_inputs c.args.inputs.now in
     let columns = c.args.inputs.now.source.size.columns in
     let t : T c.args.fresh = of-not c.args.fresh (ap not c.if-not-fresh.false) in
     let corner = c.sum-sum in
@@ -56,7 +47,7 @@ returns g c =
     let row_room = row.auto.out ∙ slice-length 0 columns c.args.out.now (omega arith) (c.requires.room t) ∙ none in
     record {
       begins = λ u. refl;
-      row = λ u. fresh-row x c.requires.inputs c.requires.slanted (c.requires.high t) _ _ c.args.work.now _ _ _ (c.requires.slopes t) corner.ensures c.requires.room_work written.0;
+      row = λ u. fresh-row x (checked c.args.inputs.now) c.requires.slanted (c.requires.high t) _ _ c.args.work.now _ _ _ (c.requires.slopes t) corner.ensures c.requires.room_work written.0;
       front = λ u. row-front columns c.args.out.now _ _ (c.requires.room t) row_room (written.1 ∙ sym written.0);
       none = λ u. absurd (on-and-off c.args.fresh t u);
       kept = λ u. absurd (on-and-off c.args.fresh t u);

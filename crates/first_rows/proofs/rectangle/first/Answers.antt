@@ -2,25 +2,25 @@
 use Prim.Native.Nat.{ℕ}
 use native.Mathlib.Omega.{arith}
 use lib.IntN.{ℤ}
+use Rattle.picture.proofs.Found.{limits}
 use Rattle.picture.specs.Picture.{Source, source, plane_at}
-use Rattle.picture.specs.Given.{source_of}
-use Rattle.picture.proofs.Refusals.{in-limits}
+use Rattle.picture.specs.Checked.{checked_source}
 use Rattle.picture.proofs.Planes.{plane-bound, plane-past}
 use Rattle.steps.proofs.Columns.{columns-none, columns-more, columns-all}
 use Rattle.first_rows.proofs.rectangle.first.Goals as goal
 
 pub high-end-requires : goal.high-end-requires
-high-end-requires c = omega (arith, (in-limits c.args.source.now.size c.requires.size).some_rows)
+high-end-requires c = omega (arith, (limits c.args.source.now).some_rows)
 
 pub loop-m-init : goal.loop-m-init
 loop-m-init c =
-    let pictures : Source = source_of c.args.source.now in
+    let pictures : Source = checked_source c.args.source.now in
     let plane : ℕ → ℕ → ℤ = plane_at pictures in
-    (omega arith, columns-none plane c.args.source.now.size.columns _ _ c.requires.room_work c.fill.ensures)
+    (omega arith, columns-none plane c.args.source.now.size.columns _ _ c.requires c.fill.ensures)
 
 pub loop-m-preserved : goal.loop-m-preserved
 loop-m-preserved c =
-    let pictures : Source = source_of c.args.source.now in
+    let pictures : Source = checked_source c.args.source.now in
     let plane : ℕ → ℕ → ℤ = plane_at pictures in
     let l = c.loop-m in (
       omega arith,
@@ -29,8 +29,8 @@ loop-m-preserved c =
 
 pub returns : goal.returns
 returns c =
-    let pictures : Source = source_of c.args.source.now in
+    let pictures : Source = checked_source c.args.source.now in
     let plane : ℕ → ℕ → ℤ = plane_at pictures in
     let l = c.loop-m in
-    columns-all c.args.source.now.size plane (in-limits c.args.source.now.size c.requires.size) (plane-bound pictures c.requires.levels_f c.requires.levels_g) c.args.a l.m _
+    columns-all c.args.source.now.size plane (limits c.args.source.now) (plane-bound pictures c.args.source.now.levels_f c.args.source.now.levels_g) c.args.a l.m _
     (omega (arith, c.loop-m-test.false, c.high-end.ensures)) l.invariant.1

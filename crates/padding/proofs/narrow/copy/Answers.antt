@@ -1,7 +1,7 @@
 -- `padding::narrow::copy` meets its contract. Assumes nothing.
-use native.Mathlib.Omega.{arith}
-use Rattle.numbers.proofs.Writes.{upto_all}
+use mathlib.Core.Path.{refl, ◌∙◌}
+use Rattle.numbers.proofs.Writes.{is-tabulate}
 use Rattle.padding.proofs.narrow.copy.Goals as goal
 
 pub returns : goal.returns
-returns c = upto_all c.loop-k.invariant (omega arith)
+returns c = c.copy_from_slice.ensures.after ∙ is-tabulate _ _ _ c.requires (λ k h. refl)

@@ -1,0 +1,19 @@
+-- The inputs that checks have passed, as the records of `Picture`.
+-- Assumes nothing.
+use Rattle.picture.specs.declared.checked.CheckedWindow.{CheckedWindow}
+use Rattle.picture.specs.declared.checked.CheckedSource.{CheckedSource}
+use Rattle.picture.specs.declared.checked.CheckedInputs.{CheckedInputs}
+use Rattle.picture.specs.declared.Window.{Window}
+use Rattle.picture.specs.Window.{window}
+use Rattle.picture.specs.Picture.{Source, Inputs, source}
+use Rattle.picture.specs.Shape.{shape_number}
+use Rattle.picture.specs.Plane.{plane_number}
+
+abbrev pub given : CheckedWindow → Window
+given w = window (shape_number w.shape) w.first w.second
+
+abbrev pub checked_source : CheckedSource → Source
+checked_source x = source x.size x.f.now x.g.now x.shift (plane_number x.plane)
+
+abbrev pub checked_inputs : CheckedInputs → Inputs
+checked_inputs x = record { source = checked_source x.source; window = given x.window }

@@ -1,0 +1,64 @@
+// Inputs that checks have passed: what the checks found stands in their types.
+ghost use Rattle.std.specs.Prelude.{◌≡◌, T, length};
+ghost use Rattle.picture.specs.Size.{size_legal, cells};
+ghost use Rattle.picture.specs.Window.{window, window_legal};
+ghost use Rattle.picture.specs.Shape.{shape_number};
+ghost use Rattle.picture.specs.Picture.{shift_legal, Levels};
+
+use crate::{Plane, Shape, Shift, Size};
+
+// A window that is legal.
+#[derive(Clone, Copy)]
+pub struct CheckedWindow {
+    pub shape: Shape,
+    pub first: i32,
+    pub second: i32,
+    pub ghost legal: { T (window_legal (window (shape_number shape) first second)) },
+}
+
+// Two pictures of a legal size, a legal shift, and a plane.
+#[derive(Clone, Copy)]
+pub struct CheckedSource<'a> {
+    pub size: Size,
+    pub f: &'a [i16],
+    pub g: &'a [i16],
+    pub shift: Shift,
+    pub plane: Plane,
+    pub ghost legal: { T (size_legal size) },
+    pub ghost length_f: { length f.now ≡ cells size },
+    pub ghost length_g: { length g.now ≡ cells size },
+    pub ghost levels_f: { Levels f.now },
+    pub ghost levels_g: { Levels g.now },
+    pub ghost shift_within: { T (shift_legal shift) },
+}
+
+// The same with a window: "they are accepted when .. none that looks at them alone holds".
+#[derive(Clone, Copy)]
+pub struct CheckedInputs<'a> {
+    pub source: CheckedSource<'a>,
+    pub window: CheckedWindow,
+}
+
+impl<'a> CheckedInputs<'a> {
+    ghost use Rattle.std.specs.Prelude.{◌≡◌};
+    ghost use Rattle.picture.specs.Picture.{inputs};
+    ghost use Rattle.picture.specs.Plane.{plane_number};
+    ghost use Rattle.picture.specs.Checked.{given, checked_inputs};
+
+    // The same inputs with another plane.
+    pub fn on_plane(&self, plane: Plane) -> CheckedInputs<'a>
+        ensures { checked_inputs result ≡ inputs self.now.source.size self.now.source.f.now self.now.source.g.now (given self.now.window) self.now.source.shift (plane_number plane) }
+    {
+        let source = CheckedSource {
+            size: self.source.size,
+            f: self.source.f,
+            g: self.source.g,
+            shift: self.source.shift,
+            plane,
+        };
+        CheckedInputs {
+            source,
+            window: self.window,
+        }
+    }
+}

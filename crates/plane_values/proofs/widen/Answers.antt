@@ -1,7 +1,0 @@
--- `plane_values::widen` meets its contract. Assumes nothing.
-use native.Mathlib.Omega.{arith}
-use Rattle.numbers.proofs.Writes.{upto_all}
-use Rattle.plane_values.proofs.widen.Goals as goal
-
-pub returns : goal.returns
-returns c = upto_all c.loop-k.invariant (omega arith)
