@@ -12,8 +12,8 @@ fn total(work: &[i64], n: usize) -> i64
     ensures { result ≡ range_sum work.now 0 n }
 {
     let mut s = 0i64;
-    for k in 0..n {
-        s = wrapping::wrapping_add(s, work[k]);
+    for x in &work[..n] {
+        s = wrapping::wrapping_add(s, *x);
     }
     s
 }

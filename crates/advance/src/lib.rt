@@ -5,8 +5,9 @@ ghost use Rattle.picture.specs.Window.{shape_of};
 ghost use Rattle.picture.specs.Picture.{plane_at};
 ghost use Rattle.picture.specs.Checked.{given, checked_source, checked_inputs};
 ghost use Rattle.session.specs.Rows.{strip, Advanced};
-ghost use Rattle.advance.specs.Asked.{ManyAsked, SlantedAsked};
+ghost use Rattle.advance.specs.Asked.{ManyAsked, SomeAsked};
 
+use kept_slopes::SlantedInputs;
 use picture::CheckedInputs;
 
 // n rows from a position on, one after the other.
@@ -21,34 +22,31 @@ fn one_by_one(
     ensures { Advanced (strip inputs.now.source.size (plane_at (checked_source inputs.now.source)) (shape_of (given inputs.now.window)) position n work.old) work.new out.new }
 {
     let columns = inputs.source.size.columns;
-    let mut start = 0;
     for k in 0..n {
+        let start = k * columns;
         let end = start + columns;
         areas::next(position + k, inputs, work, &mut out[start..end]);
-        start = end;
     }
 }
 
 // The same over a window that is no rectangle, by the slopes of its edges; a row at position 0 comes by itself.
 fn by_edges(
     position: usize,
-    inputs: &CheckedInputs<'_>,
+    slanted: &SlantedInputs<'_>,
     n: usize,
     work: &mut [i64],
     out: &mut [i64],
 )
-    requires { SlantedAsked (checked_inputs inputs.now) position n work.old out.old }
-    ensures { Advanced (strip inputs.now.source.size (plane_at (checked_source inputs.now.source)) (shape_of (given inputs.now.window)) position n work.old) work.new out.new }
+    requires { SomeAsked (checked_inputs slanted.now.inputs) position n work.old out.old }
+    ensures { Advanced (strip slanted.now.inputs.source.size (plane_at (checked_source slanted.now.inputs.source)) (shape_of (given slanted.now.inputs.window)) position n work.old) work.new out.new }
 {
     if position == 0 {
-        let zero = 0;
-        let columns = inputs.source.size.columns;
-        let end = out.len();
-        areas::next(0, inputs, work, &mut out[zero..columns]);
-        edges::many(inputs, 0, n - 1, work, &mut out[columns..end]);
+        let columns = slanted.inputs.source.size.columns;
+        areas::next(0, &slanted.inputs, work, &mut out[..columns]);
+        edges::many(slanted, 0, n - 1, work, &mut out[columns..]);
         return;
     }
-    edges::many(inputs, position - 1, n, work, out);
+    edges::many(slanted, position - 1, n, work, out);
 }
 
 // n rows from a position on.
@@ -62,13 +60,15 @@ pub fn many(
     requires { ManyAsked (checked_inputs inputs.now) position n work.old out.old }
     ensures { Advanced (strip inputs.now.source.size (plane_at (checked_source inputs.now.source)) (shape_of (given inputs.now.window)) position n work.old) work.new out.new }
 {
-    if crossings::from_top(position, inputs.window, inputs.source.plane, n) {
-        edges::narrow::fresh(inputs, n, work, out);
-        return;
-    }
-    if crossings::edges_pay(inputs.window, n) {
-        by_edges(position, inputs, n, work, out);
-        return;
+    if let Some(slanted) = kept_slopes::slanted(inputs) {
+        if crossings::from_top(position, inputs.window, inputs.source.plane, n) {
+            edges::narrow::fresh(&slanted, n, work, out);
+            return;
+        }
+        if crossings::edges_pay(inputs.window, n) {
+            by_edges(position, &slanted, n, work, out);
+            return;
+        }
     }
     one_by_one(position, inputs, n, work, out);
 }

@@ -62,17 +62,19 @@ module _ (x : Inputs) (c : Checked x) where
 
   -- its rows at the front of a block
   pub block_made : (i n : ℕ) (before work block part : List ℤ) → n ≡ rows_in x i → ready x i before → Advanced (strip z P s i n before) work part →
-      n * z.columns ≤ length block → length part ≡ n * z.columns → Block x i work (put_mid 0 (n * z.columns - 0) block part)
+      n * z.columns ≤ length block → length part ≡ n * z.columns → Block x i work (put_mid 0 (n * z.columns) block part)
   unfolding direct_sum
   block_made i n before work block part n-is e a room len =
       let d = strip-done z P lim small s i n before (is-ready i before e) in
       let rows : part ≡ rows_from i n z.columns (window_sum z s P) = a.output_is ∙ d.rows in
+      let none : n * z.columns ≡ n * z.columns - 0 = omega arith in
       record {
         sums = λ r j r< j<.
             let r<n : r < n = rw n-is r< in
             let within : r * z.columns + j < n * z.columns = omega (arith, line-end r n z.columns r<n) in
             let back : r * z.columns + j - 0 ≡ r * z.columns + j = omega arith in
-            part-within 0 (n * z.columns) block part (omega arith) room (omega arith) (r * z.columns + j) (omega arith) within
+            ap (λ (m : ℕ). at (put_mid 0 m block part) (r * z.columns + j)) none
+            ∙ part-within 0 (n * z.columns) block part (omega arith) room (omega arith) (r * z.columns + j) (omega arith) within
             ∙ ap (at part) back ∙ ap (λ (l : List ℤ). at l (r * z.columns + j)) rows
             ∙ get_d_rows i n z.columns r j (window_sum z s P) (pos 0) r<n j<;
         left = subst (λ (m : ℕ). ready x (i + m) work) n-is (was-ready (i + n) work (subst (Ready z P lim small s (i + n)) (sym a.work_is) d.ready));

@@ -16,7 +16,5 @@ pub fn next(i: usize, inputs: &CheckedInputs<'_>, work: &mut [i64], block: &mut 
     }
     let columns = inputs.source.size.columns;
     let n = clip::high(i, 15, inputs.source.size.rows) - i;
-    let zero = 0;
-    let end = n * columns;
-    advance::many(i, inputs, n, work, &mut block[zero..end]);
+    advance::many(i, inputs, n, work, &mut block[..n * columns]);
 }

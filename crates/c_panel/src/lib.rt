@@ -17,7 +17,7 @@ pub extern "C" fn ls_panel(text: &[u8], out: &mut [u8], written: &mut usize) -> 
     ensures area { out.new ≡ (rendered text.now out.old).area }
     ensures written { written.new ≡ result_or written.old (panel_reply text.now out.old) }
 {
-    if out.len() < 28672 {
+    if out.len() < panel_text::ROOM {
         return refused(Refusal::Area);
     }
     *written = panel_text::render(text, out);

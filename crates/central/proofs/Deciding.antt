@@ -1,16 +1,19 @@
 -- What `central_moments` answers, by what it has tested.
 -- Assumes nothing.
-use mathlib.Core.Path.{◌≡◌, sym}
+use mathlib.Core.Path.{◌≡◌, refl, sym}
 use mathlib.Core.Bool.{Bool, true, false}
 use mathlib.Core.Option.{none, some}
 use Prim.Native.Nat.{ℕ, ◌*◌}
 use native.Mathlib.Omega.{arith}
 use lib.Dec.{leb}
-use borrow.Author.Tests.{leb-true, leb-false}
-use lib.IntN.{ℤ, pos, nat_abs}
+use borrow.Author.Tests.{le-ltb, leb-true, leb-false}
+use lib.IntN.{ℤ, pos, negsuc, nat_abs}
 use lib.Signed.{lt_z}
 use mir.Syntax.{w64}
 use mir.Val.{SFits}
+use Rattle.std.specs.Prelude.{Result, Ok, Err, unsigned_abs}
+use Rattle.std.specs.Int.{FitsUnsignedBits}
+use Rattle.std.specs.Result.{OkIff}
 use Rattle.picture.specs.Refusal.{refused, answered}
 use Rattle.statistics.specs.declared.Sums.{Sums}
 use Rattle.statistics.specs.SixSums.{Vf, Vg, covariance, unbounded, count}
@@ -27,6 +30,12 @@ pub record Held (z : Sums) (f g c : ℤ) : Type 0 where
   pub vf : SFits w64 f
   pub vg : SFits w64 g
   pub covariance : SFits w64 c
+
+-- ---- a form that is no natural number
+pub negative : {E : Type 0} (x : ℤ) (r : Result ℕ E) → SFits w64 x → OkIff r (FitsUnsignedBits 64 x) (unsigned_abs x) → ((v : ℕ) → r ≡ Ok v → ⊥) → lt_z x (pos 0) ≡ true
+negative x (Ok v) f o h = absurd (h v refl)
+negative (pos n) (Err e) f o h = absurd (o (omega (arith, f.sfits)))
+negative (negsuc n) (Err e) f o h = refl
 
 -- ---- the refusals
 refused-where : (z : Sums) → (Possible z → ⊥) → central_call z ≡ refused 9

@@ -39,14 +39,12 @@ pub fn central_moments(z: Sums) -> Result<Option<CentralMoments>, Refusal>
     let f = covariance(n, s, s, a);
     let g = covariance(n, t, t, b);
     let c = covariance(n, s, t, p);
-    if f < 0 {
+    let Ok(vf) = u64::try_from(f) else {
         return Err(Refusal::Sums);
-    }
-    if g < 0 {
+    };
+    let Ok(vg) = u64::try_from(g) else {
         return Err(Refusal::Sums);
-    }
-    let vf = f as u64;
-    let vg = g as u64;
+    };
     let size = magnitude(c);
     if !at_most(multiply(size, size), multiply(vf, vg)) {
         return Err(Refusal::Sums);

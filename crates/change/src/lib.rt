@@ -2,16 +2,16 @@
 // For callers that have checked their inputs.
 #![tactic(auto)]
 
-ghost use Rattle.std.specs.Prelude.{◌≡◌, pos, ◌+ℤ◌, ◌-ℤ◌, length, get_or};
+ghost use Rattle.std.specs.Prelude.{◌≡◌, ℕ, ◌+◌, ◌<◌, pos, ◌+ℤ◌, ◌-ℤ◌, length, get_or, IfSome};
 ghost use Rattle.numbers.specs.Grid.{tabulate};
 ghost use Rattle.numbers.specs.Wrap.{wrap};
 ghost use Rattle.picture.specs.Picture.{plane_at};
 ghost use Rattle.picture.specs.Plane.{plane_number};
 ghost use Rattle.picture.specs.Checked.{checked_source};
-ghost use Rattle.lines.specs.Lines.{line_value, LinesAsked, Numbers};
+ghost use Rattle.lines.specs.Lines.{line_length, CountingOf, HasCells, line_value, row_if_any, LinesAsked, Numbers};
 
 use exchanges as values;
-use lines::{Line, line_of};
+use lines::{Counting, Line, counting_of, line_of};
 use picture::{CheckedSource, Plane};
 
 // Every number is of 64 bits. The loop is there for the proof alone: it reads each number, whose type then says so, and keeps nothing, so the compiler leaves no code of it.
@@ -24,55 +24,52 @@ fn known(sums: &[i64])
 }
 
 // The line a enters, and the line b leaves; where there is none, nothing does.
-fn exchange_lines(
-    plane: Plane,
-    f: &[i16],
-    g: &[i16],
-    a: Option<Line>,
-    b: Option<Line>,
-    sums: &mut [i64],
-)
-    requires { LinesAsked f.now g.now a b sums.old }
-    ensures { sums.new ≡ tabulate (length sums.old) (λ k. wrap (get_or sums.old k (pos 0) +ℤ (line_value (plane_number plane) f.now g.now a k -ℤ line_value (plane_number plane) f.now g.now b k))) }
+fn exchange_lines(plane: Plane, a: Option<Line<'_>>, b: Option<Line<'_>>, sums: &mut [i64])
+    requires { LinesAsked a b sums.old }
+    ensures { sums.new ≡ tabulate (length sums.old) (λ k. wrap (get_or sums.old k (pos 0) +ℤ (line_value (plane_number plane) a.entry k -ℤ line_value (plane_number plane) b.entry k))) }
 {
     let n = sums.len();
     match (a, b) {
-        (Some(a), Some(b)) => values::exchange_values(
-            plane,
-            0,
-            &f[a.f..a.f + n],
-            &g[a.g..a.g + n],
-            &f[b.f..b.f + n],
-            &g[b.g..b.g + n],
-            sums,
-        ),
+        (Some(a), Some(b)) => values::exchange_values(plane, 0, a.f, a.g, b.f, b.g, sums),
         (Some(a), None) => {
             // An array for the longest row: no heap is a rule of the project.
             let zeros = [0i16; 1024];
-            values::enter_values(plane, &f[a.f..a.f + n], &g[a.g..a.g + n], &zeros[..n], sums);
+            values::enter_values(plane, a.f, a.g, &zeros[..n], sums);
         }
         (None, Some(b)) => {
             let zeros = [0i16; 1024];
-            values::leave_values(plane, &f[b.f..b.f + n], &g[b.g..b.g + n], &zeros[..n], sums);
+            values::leave_values(plane, b.f, b.g, &zeros[..n], sums);
         }
         (None, None) => {}
     }
 }
 
-// Row `enter` of the plane is added to the sums, and row `leave` taken away; a row past the picture's last has no cell.
-pub fn exchange(source: &CheckedSource<'_>, enter: usize, leave: usize, sums: &mut [i64])
-    requires { length sums.old ≡ source.now.size.columns }
-    ensures { sums.new ≡ tabulate source.now.size.columns (λ j. wrap (get_or sums.old j (pos 0) +ℤ (plane_at (checked_source source.now) enter j -ℤ plane_at (checked_source source.now) leave j))) }
+// The line of the row that leaves, if one does and its cells count.
+fn leaving<'a>(
+    source: &CheckedSource<'a>,
+    counting: Counting,
+    row: Option<usize>,
+) -> Option<Line<'a>>
+    requires { CountingOf (checked_source source.now) counting }
+    ensures cells { IfSome result (HasCells (line_length counting)) }
+    ensures values { (k : ℕ) → k < line_length counting → line_value (plane_number source.now.plane) result k ≡ row_if_any (checked_source source.now) row (counting.columns.first + k) }
 {
-    let counting = overlaps::overlap_of(source.size.rows, source.shift.down);
-    let along = overlaps::overlap_of(source.size.columns, source.shift.right);
+    let row = row?;
+    line_of(source, counting, row)
+}
+
+// Row `enter` of the plane is added to the sums, and row `leave`, if one leaves, taken away; a row past the picture's last has no cell.
+pub fn exchange(source: &CheckedSource<'_>, enter: usize, leave: Option<usize>, sums: &mut [i64])
+    requires { length sums.old ≡ source.now.size.columns }
+    ensures { sums.new ≡ tabulate source.now.size.columns (λ j. wrap (get_or sums.old j (pos 0) +ℤ (plane_at (checked_source source.now) enter j -ℤ row_if_any (checked_source source.now) leave j))) }
+{
+    let counting = counting_of(source);
+    let along = counting.columns;
     known(sums);
     exchange_lines(
         source.plane,
-        source.f,
-        source.g,
-        line_of(source, counting, along, enter),
-        line_of(source, counting, along, leave),
+        line_of(source, counting, enter),
+        leaving(source, counting, leave),
         &mut sums[along.first..along.end],
     );
 }

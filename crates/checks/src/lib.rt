@@ -5,8 +5,9 @@ ghost use Rattle.std.specs.Prelude.{◌≡◌, not, [], ◌∷◌};
 ghost use Rattle.std.proofs.Math.Option.{none};
 ghost use Rattle.picture.specs.Refusal.{◌when◌, refusal, outcome};
 ghost use Rattle.picture.specs.Answers.{number, refused_by, outcome_by};
-ghost use Rattle.picture.specs.Given.{source_of, inputs_of};
-ghost use Rattle.picture.specs.Checked.{given, checked_source, checked_inputs};
+ghost use Rattle.picture.specs.Picture.{source};
+ghost use Rattle.picture.specs.Given.{inputs_of};
+ghost use Rattle.picture.specs.Checked.{given, pictures, checked_pictures, checked_source, checked_inputs};
 ghost use Rattle.picture.specs.Conditions.{check3, picture_checks, input_checks};
 ghost use Rattle.picture.specs.Direct.{direct_checks};
 ghost use Rattle.checks.specs.Passed.{plane_checks};
@@ -15,8 +16,8 @@ use legal_sizes::{cell_inside, is_full, size_legal};
 use legal_windows::{shift_legal, window_legal};
 use levels::known;
 use picture::{
-    Cell, CheckedInputs, CheckedSource, CheckedWindow, Inputs, Plane, Refusal, Shape, Size, Source,
-    Window,
+    Cell, CheckedInputs, CheckedPictures, CheckedSource, CheckedWindow, Inputs, Plane, Refusal,
+    Shape, Shift, Size, Window,
 };
 
 // One line of the table: the call is turned down unless the input is sound.
@@ -26,13 +27,20 @@ pub fn require(sound: bool, line: Refusal) -> Result<(), Refusal>
     if sound { Ok(()) } else { Err(line) }
 }
 
-// 1, and 2 for each of two pictures. They go one by one: what else a call gives, a window or a plane, is not the same for all.
-pub fn check_pictures(size: Size, f: &[i16], g: &[i16]) -> Result<(), Refusal>
-    ensures { refused_by result ≡ refusal (picture_checks size f.now g.now) }
+// 1, and 2 for each of two pictures.
+pub fn check_pictures<'a>(
+    size: Size,
+    f: &'a [i16],
+    g: &'a [i16],
+) -> Result<CheckedPictures<'a>, Refusal>
+    ensures { outcome_by checked_pictures result ≡ outcome (refusal (picture_checks size f.now g.now)) (pictures size f.now g.now) }
 {
     require(size_legal(size), Refusal::Size)?;
     require(is_full(size, f.len()), Refusal::Length)?;
-    require(is_full(size, g.len()), Refusal::Length)
+    require(is_full(size, g.len()), Refusal::Length)?;
+    known(f);
+    known(g);
+    Ok(CheckedPictures { size, f, g })
 }
 
 // 3.
@@ -48,20 +56,21 @@ pub fn check_window(window: Window) -> Result<CheckedWindow, Refusal>
     })
 }
 
-// 4 and 5, of pictures that passed 1 and 2.
-pub fn check_plane<'a>(source: &Source<'a>) -> Result<CheckedSource<'a>, Refusal>
-    requires { none ≡ refusal (picture_checks source.now.size source.now.f.now source.now.g.now) }
-    ensures { outcome_by checked_source result ≡ outcome (refusal (plane_checks (source_of source.now))) (source_of source.now) }
+// 4 and 5: the pictures with a shift and a plane.
+pub fn check_plane<'a>(
+    pictures: &CheckedPictures<'a>,
+    shift: Shift,
+    plane: u32,
+) -> Result<CheckedSource<'a>, Refusal>
+    ensures { outcome_by checked_source result ≡ outcome (refusal (plane_checks shift plane)) (source pictures.now.size pictures.now.f.now pictures.now.g.now shift plane) }
 {
-    require(shift_legal(source.shift), Refusal::Shift)?;
-    let plane = Plane::try_from(source.plane)?;
-    known(source.f);
-    known(source.g);
+    require(shift_legal(shift), Refusal::Shift)?;
+    let plane = Plane::try_from(plane)?;
     Ok(CheckedSource {
-        size: source.size,
-        f: source.f,
-        g: source.g,
-        shift: source.shift,
+        size: pictures.size,
+        f: pictures.f,
+        g: pictures.g,
+        shift,
         plane,
     })
 }
@@ -70,9 +79,10 @@ pub fn check_plane<'a>(source: &Source<'a>) -> Result<CheckedSource<'a>, Refusal
 pub fn check_inputs<'a>(inputs: &Inputs<'a>) -> Result<CheckedInputs<'a>, Refusal>
     ensures { outcome_by checked_inputs result ≡ outcome (refusal (input_checks (inputs_of inputs.now))) (inputs_of inputs.now) }
 {
-    check_pictures(inputs.source.size, inputs.source.f, inputs.source.g)?;
+    let given = &inputs.source;
+    let pictures = check_pictures(given.size, given.f, given.g)?;
     let window = check_window(inputs.window)?;
-    let source = check_plane(&inputs.source)?;
+    let source = check_plane(&pictures, given.shift, given.plane)?;
     Ok(CheckedInputs { source, window })
 }
 

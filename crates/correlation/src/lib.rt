@@ -15,22 +15,19 @@ use statistics::{Coefficient, Sums};
 use wide::{Product, Scaled, multiply, scale};
 use wide_order::scaled_at_most;
 
-// The largest c with c²·x ≤ y, by halving the numbers up to 1,000. By hand: the library halves slices by a test (`partition_point`), and no range of numbers.
+// The largest c with c²·x ≤ y, bit by bit from the top: c is at most 1,000, which ten bits hold.
 fn wide_root(y: Scaled, x: Product) -> u32
     requires { Correlated (value x) (scaled_value y) }
     ensures { result ≡ root_over (scaled_value y) (value x) }
 {
-    let mut low: u32 = 0;
-    let mut high: u32 = 1001;
-    while low + 1 < high {
-        let middle = (low + high) / 2;
-        if scaled_at_most(scale(x, middle * middle), y) {
-            low = middle;
-        } else {
-            high = middle;
+    let mut c: u32 = 0;
+    for bit in 0..10u32 {
+        let more = c + (512 >> bit);
+        if scaled_at_most(scale(x, more * more), y) {
+            c = more;
         }
     }
-    low
+    c
 }
 
 // "Empty if N = 0; Flat if Vf or Vg is 0; otherwise the sign of C times the largest whole c .. with c²·Vf·Vg ≤ 1,000,000·C²."

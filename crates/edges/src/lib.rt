@@ -3,24 +3,23 @@
 
 ghost use Rattle.std.specs.Prelude.{suc};
 ghost use Rattle.picture.specs.Window.{shape_of};
-ghost use Rattle.picture.specs.Picture.{plane_at};
-ghost use Rattle.picture.specs.Checked.{given, checked_source, checked_inputs};
+ghost use Rattle.picture.specs.Checked.{given};
 ghost use Rattle.session.specs.Rows.{strip, Advanced};
-ghost use Rattle.kept_slopes.specs.Edges.{ManyAsked};
+ghost use Rattle.kept_slopes.specs.Edges.{plane_in, ManyAsked};
 
-use picture::CheckedInputs;
+use kept_slopes::SlantedInputs;
 
 pub mod narrow; // narrow.rt: planes 0 to 2, whose values are ones and levels
 mod rows; // rows.rt: rows of any width
 
 // n rows behind row i, of which the work area has the sums.
-pub fn many(inputs: &CheckedInputs<'_>, i: usize, n: usize, work: &mut [i64], out: &mut [i64])
-    requires { ManyAsked (checked_inputs inputs.now) i n work.old out.old }
-    ensures { Advanced (strip inputs.now.source.size (plane_at (checked_source inputs.now.source)) (shape_of (given inputs.now.window)) (suc i) n work.old) work.new out.new }
+pub fn many(slanted: &SlantedInputs<'_>, i: usize, n: usize, work: &mut [i64], out: &mut [i64])
+    requires { ManyAsked slanted.now i n work.old out.old }
+    ensures { Advanced (strip slanted.now.inputs.source.size (plane_in slanted.now) (shape_of (given slanted.now.inputs.window)) (suc i) n work.old) work.new out.new }
 {
-    if inputs.source.plane.is_narrow() {
-        narrow::many(inputs, i, n, work, out);
+    if slanted.inputs.source.plane.is_narrow() {
+        narrow::many(slanted, i, n, work, out);
         return;
     }
-    rows::rows_from::<i64>(false, inputs, i, n, work, out);
+    rows::rows_from::<i64>(false, slanted, i, n, work, out);
 }

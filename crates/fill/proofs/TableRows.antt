@@ -3,7 +3,7 @@
 use mathlib.Core.Path.{◌≡◌, refl, sym, ◌∙◌, ap}
 use mathlib.Core.List.{List, [], ◌++◌}
 use Prim.Native.Nat.{ℕ, zero, suc, ◌+◌, ◌-◌, ◌*◌, ◌^◌, ◌≤◌, ◌<◌}
-use native.Mathlib.Nat.{mul-le-mul, zero-add, zero-mul, suc-mul}
+use native.Mathlib.Nat.{mul-le-mul, zero-mul, suc-mul}
 use native.Mathlib.Omega.{arith}
 use lib.IntN.{ℤ, pos, nat_abs, ◌+ℤ◌}
 use lib.ListN.{length, take, drop, get_or-append}
@@ -26,11 +26,11 @@ row-as {m} {n} size above row same out e h =
     ∙ tabulate-cong n (row_number above row) (row_number above same) (λ j j<. ap (λ (z : ℤ). wrap (at above j +ℤ z)) (sum-cong (suc j) row same (λ q q<. h q (omega arith))))
 
 -- the same of a row of the plane that was written first, and summed in its place
-pub row-of-part : (P : ℕ → ℕ → ℤ) (i : ℕ) {m n : ℕ} → m ≡ n → (above part out : List ℤ) → part ≡ tabulate m (λ k. P i (0 + k)) → out ≡ tabulate (length part) (row_number above (at part)) → out ≡ tabulate n (row_number above (P i))
+pub row-of-part : (P : ℕ → ℕ → ℤ) (i : ℕ) {m n : ℕ} → m ≡ n → (above part out : List ℤ) → part ≡ tabulate m (P i) → out ≡ tabulate (length part) (row_number above (at part)) → out ≡ tabulate n (row_number above (P i))
 row-of-part P i {m} {n} size above part out e w =
     let width : length part ≡ n = tabulated-length part m _ e ∙ size in
     row-as width above (at part) (P i) out w
-    (λ q q<. ap (λ (l : List ℤ). at l q) e ∙ get_d_tabulate m q (λ k. P i (0 + k)) (pos 0) (omega arith) ∙ ap (P i) (zero-add q))
+    (λ q q<. ap (λ (l : List ℤ). at l q) e ∙ get_d_tabulate m q (P i) (pos 0) (omega arith))
 
 -- what stands above row i at column j: T of the row above, and 0 above the first
 abbrev pub above_row : (ℕ → ℕ → ℤ) → (i j : ℕ) → ℤ

@@ -13,7 +13,7 @@ ghost use Rattle.cumulative.specs.Table.{table_of};
 ghost use Rattle.fill.specs.Fill.{RowLevels, RowAsked};
 
 use level_sums::next_levels;
-use overlaps::overlap_of;
+use lines::{counting_of, line_of};
 use picture::{CheckedSource, Plane};
 use row_sums::{first_row, next_row};
 
@@ -21,16 +21,15 @@ use row_sums::{first_row, next_row};
 fn levels_of<'a>(source: &CheckedSource<'a>, i: usize) -> Option<&'a [i16]>
     ensures { IfSome result (λ levels. RowLevels (checked_source source.now) i levels.now) }
 {
-    let columns = source.size.columns;
-    let counting = overlap_of(source.size.rows, source.shift.down);
-    let along = overlap_of(columns, source.shift.right);
-    if along.end - along.first < columns {
+    let counting = counting_of(source);
+    let along = counting.columns;
+    if along.end - along.first < source.size.columns {
         return None;
     }
-    let line = lines::line_of(source, counting, along, i)?;
+    let line = line_of(source, counting, i)?;
     match source.plane {
-        Plane::F => Some(&source.f[line.f..line.f + columns]),
-        Plane::G => Some(&source.g[line.g..line.g + columns]),
+        Plane::F => Some(line.f),
+        Plane::G => Some(line.g),
         _ => None,
     }
 }
@@ -43,7 +42,7 @@ fn table_row(source: &CheckedSource<'_>, i: usize, above: &[i64], row: &mut [i64
     match levels_of(source, i) {
         Some(levels) => next_levels(levels, above, row),
         None => {
-            planes::part(source, i, 0, row);
+            planes::part(source, i, row);
             next_row(above, row);
         }
     }
@@ -56,7 +55,7 @@ pub fn whole(source: &CheckedSource<'_>, table: &mut [i64])
 {
     let columns = source.size.columns;
     let first = &mut table[..columns];
-    planes::part(source, 0, 0, first);
+    planes::part(source, 0, first);
     first_row(first);
     for i in 1..source.size.rows {
         let (before, rest) = table.split_at_mut(i * columns);

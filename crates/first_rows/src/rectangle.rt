@@ -12,10 +12,9 @@ pub fn first(source: &CheckedSource<'_>, a: usize, work: &mut [i64])
     requires { length work.old ≡ source.now.size.columns }
     ensures { work.new ≡ tabulate source.now.size.columns (column_sum source.now.size (plane_at (checked_source source.now)) a 0) }
 {
-    let rows = source.size.rows;
-    let end = clip::high(0, a, rows);
+    let end = clip::high(0, a, source.size.rows);
     plane_values::fill(work, 0);
     for m in 0..end {
-        change::exchange(source, m, rows, work);
+        change::exchange(source, m, None, work);
     }
 }

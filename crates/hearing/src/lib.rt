@@ -26,13 +26,11 @@ fn heard(n: i64, s: i64, a: i64) -> Voice
         b: 0,
         p: 0,
     };
-    match voices::voice_answer(sums) {
-        Ok(voice) => voice,
-        Err(_) => unreachable!(),
-    }
+    voices::voice_answer(sums).unwrap()
 }
 
-// "the search leaves both rows and columns at the first hit": the first steady cell of rows whose sums stand in n, s and a, in row order.
+// "the search leaves both rows and columns at the first hit": the first steady cell of rows whose sums stand in n, s and a, in row order. Three areas, and
+// none of records, since each is lent to the steps of a plane of its own.
 pub fn first(rows: usize, columns: usize, n: &[i64], s: &[i64], a: &[i64]) -> Option<Cell>
     requires { CellsAsked rows columns n.now s.now a.now }
     ensures { option_of result ≡ find_cell (steady_in columns n.now s.now a.now) columns 0 rows }

@@ -130,8 +130,7 @@ rows-done x false i n begin end before next out work rest no-rectangle at_0 top 
     }
 
 -- row 0 at the front of the output area
-pub row-front : (columns : ℕ) (out row next : List ℤ) → columns ≤ length out → length row ≡ columns → row ≡ next → take columns (put_mid 0 (columns - 0) out row) ≡ next
+pub row-front : (columns : ℕ) (out row next : List ℤ) → columns ≤ length out → length row ≡ columns → row ≡ next → take columns (put_mid 0 columns out row) ≡ next
 row-front columns out row next h e er =
-    let none : columns - 0 ≡ columns = omega arith in
     let from : columns ≡ 0 + columns = omega arith in
-    ap (λ (m : ℕ). take columns (put_mid 0 m out row)) none ∙ ap (λ (m : ℕ). take m (put_mid 0 columns out row)) from ∙ put-behind 0 columns out row (omega arith) e ∙ er
+    ap (λ (m : ℕ). take m (put_mid 0 columns out row)) from ∙ put-behind 0 columns out row (omega arith) e ∙ er

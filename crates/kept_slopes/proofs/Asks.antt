@@ -16,10 +16,20 @@ use Rattle.slopes.specs.Slopes.{padded}
 use Rattle.slopes.specs.Leans.{Holds, Within, GatherAsked, SlideAsked, FinishAsked, TipsAsked}
 use Rattle.slopes.proofs.Moves.{padded-bound}
 use Rattle.flat.specs.Asked.{FlatAsked}
-use Rattle.kept_slopes.specs.Edges.{Slopes, EdgesAsked}
+use Rattle.kept_slopes.specs.declared.SlantedInputs.{SlantedInputs}
+use Rattle.kept_slopes.specs.Edges.{Slopes}
 use Rattle.kept_slopes.proofs.Kept.{within-row, within-rises, within-falls}
 
-module _ (given : CheckedSource) (i h w : ℕ) (e : EdgesAsked (checked_source given) i h w) where
+module _ (slanted : SlantedInputs) (i : ℕ) (below : i < slanted.inputs.source.size.rows) where
+  abbrev given : CheckedSource
+  given = slanted.inputs.source
+
+  abbrev h : ℕ
+  h = slanted.height
+
+  abbrev w : ℕ
+  w = slanted.width
+
   abbrev columns : ℕ
   columns = given.size.columns
 
@@ -32,7 +42,7 @@ module _ (given : CheckedSource) (i h w : ℕ) (e : EdgesAsked (checked_source g
   pub row-limits : (i ≤ 255) × (columns ≤ 1024) × (h ≤ w) × (w ≤ 127)
   row-limits =
       let z = limits given in
-      omega (arith, z.few_rows, z.few_columns, e.row, e.low, e.narrow)
+      omega (arith, z.few_rows, z.few_columns, below, slanted.fits.low, slanted.fits.narrow)
 
   pub flat-asked : {work out : List ℤ} → length work ≡ columns → length out ≡ columns → FlatAsked given.size i h work out
   flat-asked l k = record {

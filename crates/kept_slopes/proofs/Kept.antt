@@ -243,13 +243,13 @@ work-tipped z P past beside w h i m n a c rises falls work out turn low tip ha h
         (ap₂ ◌-ℤ◌ (ha.each (j + 256) ∙ ap₂ (padded P) lower place) (hc.each (j + 256) ∙ ap (padded P (128 + i - h)) place) ∙ sym ends)
         (ap₂ ◌+ℤ◌ (l.rising_at (j + (128 + m)) (omega arith) ∙ ap (rising (padded P) w h (128 + i)) e) (l.falling_at (j + (384 - m)) (omega arith) ∙ ap (falling (padded P) w h (128 + i)) e')))
 
--- ---- where a loop over rows begins, with the window's height and width as the code has them
-pub slopes-begin : (Q : ℕ → ℕ → ℤ) (columns w h w' h' i : ℕ) (rises falls : List ℤ) → w' ≡ w → h' ≡ h → Slopes Q columns w h (128 + i) 0 rises falls → Slopes Q columns w' h' (128 + (i + 0)) 0 rises falls
-slopes-begin Q columns w h w' h' i rises falls ew eh s =
+-- ---- where a loop over rows begins
+pub slopes-begin : (Q : ℕ → ℕ → ℤ) (columns w h i : ℕ) (rises falls : List ℤ) → Slopes Q columns w h (128 + i) 0 rises falls → Slopes Q columns w h (128 + (i + 0)) 0 rises falls
+slopes-begin Q columns w h i rises falls s =
     let first : i ≡ i + 0 = omega arith in
-    rw (ew, eh, ← first) s
+    rw (← first) s
 
-pub holds-begin : (Q : ℕ → ℕ → ℤ) (h h' i : ℕ) (c : List ℤ) → h' ≡ h → Holds c (Q (128 + i - h)) → Holds c (Q (128 + (i + 0) - h'))
-holds-begin Q h h' i c eh s =
+pub holds-begin : (Q : ℕ → ℕ → ℤ) (h i : ℕ) (c : List ℤ) → Holds c (Q (128 + i - h)) → Holds c (Q (128 + (i + 0) - h))
+holds-begin Q h i c s =
     let first : i ≡ i + 0 = omega arith in
-    rw (eh, ← first) s
+    rw (← first) s

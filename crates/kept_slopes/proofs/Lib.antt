@@ -1,3 +1,4 @@
+pub mod Windows
 pub mod Kept
 pub mod Asks
 pub mod Advances

@@ -118,6 +118,10 @@ impl Slope for i64 {
     }
 }
 
+// The loops take arrays and the places where they begin, and no slices: an array's length is known, so its bounds are, and a slope's place shifts from row to row.
+// `slide` is not `gather` twice, nor `finish_tips` `finish` with a pass for the tips: each goes once over the slopes, and that second pass costs time (256 rows over
+// a diamond of 2 take 0.74 times as long without it).
+
 // sums[x + s] gains a[x + pa] and loses b[x + pb], for x below n.
 #[tactic(auto, using(slopes::proofs::Loops::moved_none))]
 pub fn gather<S: Slope>(

@@ -32,7 +32,7 @@ fn hexagon_legal(first: i32, second: i32) -> bool
     is_between(0, 127, first) && is_between(0, 127, second) && first + second <= 127
 }
 
-// The shape is 1 to 3, and its numbers are such as the shape allows.
+// The shape is 1 to 3, and its numbers are such as the shape allows. By the shape's number, since panel asks before any shape is made of it.
 pub fn window_legal(window: Window) -> bool
     ensures { result ≡ window_legal window }
 {

@@ -12,15 +12,14 @@ use borrow.Rule.Slice.PartMut.{put_mid}
 use Rattle.std.specs.Prelude.{Option, None, Some}
 use Rattle.numbers.specs.Grid.{tabulate}
 use Rattle.numbers.specs.Wrap.{wrap}
-use Rattle.numbers.proofs.Grids.{tabulate-cong}
 use Rattle.numbers.proofs.Writes.{at, is-tabulate, tabulate-at, part-before, part-within, part-after, part_length, slice_at, slice-length, at-past}
-use Rattle.overlaps.specs.declared.Overlap.{Overlap}
 use Rattle.picture.specs.Picture.{Source, plane_value, plane_at}
 use Rattle.overlaps.specs.Overlaps.{Overlapping}
 use Rattle.plane_values.proofs.ByPlane.{tabulate-as}
-use Rattle.lines.specs.declared.Line.{Line}
-use Rattle.lines.specs.Lines.{line_of, line_value, change_value, Numbers, Lies, OneSideAsked}
-use Rattle.lines.proofs.LineValues.{line-value, column-outside}
+use Rattle.lines.specs.declared.Counting.{Counting}
+use Rattle.lines.specs.declared.line.Line.{Line}
+use Rattle.lines.specs.Lines.{line_length, CountingOf, line_value, row_value, row_if_any, change_value, Numbers, HasCells, OneSideAsked}
+use Rattle.lines.proofs.LineValues.{line-off, row-value, column-outside}
 
 -- zeros, and a part of them, are 0 at every place
 zeros-at : (m n k : ℕ) → at (take m (replicate n (pos 0))) k ≡ pos 0
@@ -75,111 +74,97 @@ module _ (p : ℕ) (a b zeros sums out : List ℤ) (n : ℕ) (none : (k : ℕ) �
       (λ k. sym (ap (λ (y : ℤ). wrap (at sums k +ℤ y)) (ap (λ (y : ℤ). change_value p (negsuc 0) y y (at a k) (at b k)) (none k) ∙ change-leave p (at a k) (at b k))))
 
 -- ---- line by line: what was done with the levels of two lines, or with zeros in the place of one
--- no line has values 0
-pub line-off : (p : ℕ) (f g : List ℤ) (k : ℕ) → line_value p f g None k ≡ pos 0
-unfolding line_value
-line-off p f g k = refl
-
--- the levels of a line, as they were lent
-module _ (f g : List ℤ) (n : ℕ) (l : Line) (i : Lies f g n l) where
-  abbrev pub lent-f : List ℤ
-  lent-f = take (l.f + n - l.f) (drop l.f f)
-
-  abbrev pub lent-g : List ℤ
-  lent-g = take (l.g + n - l.g) (drop l.g g)
-
-  pub lent-value : (p k : ℕ) → k < n → plane_value p (at lent-f k) (at lent-g k) ≡ line_value p f g (Some l) k
-  unfolding line_value
-  lent-value p k k< =
-      ap₂ (plane_value p) (slice_at l.f (l.f + n) f (omega arith) i.in_f k (omega arith)) (slice_at l.g (l.g + n) g (omega arith) i.in_g k (omega arith))
-
-  pub lent-lengths : (length lent-f ≡ n) × (length lent-g ≡ n)
-  lent-lengths = (part l.f f i.in_f, part l.g g i.in_g)
-    where
-      part : (lo : ℕ) (h : List ℤ) → lo + n ≤ length h → length (take (lo + n - lo) (drop lo h)) ≡ n
-      part lo h r =
-          let e : lo + n - lo ≡ n = omega arith in
-          slice-length lo (lo + n) h (omega arith) r ∙ e
-
 -- a line's levels and zeros, as many as there are sums
-pub one-side : {f g sums : List ℤ} {l : Line} → length sums ≤ 1024 → (i : Lies f g (length sums) l) → OneSideAsked (lent-f f g (length sums) l i) (lent-g f g (length sums) l i) (take (length sums) (replicate 1024 (pos 0))) sums
-one-side {f} {g} {sums} {l} few i =
-    let lent = lent-lengths f g (length sums) l i in
-    record { length_a = lent.0; length_b = lent.1; length_zeros = length-take-le _ _ few; none = zeros-at (length sums) 1024 }
+pub one-side : {sums : List ℤ} (l : Line) → length sums ≤ 1024 → HasCells (length sums) l → OneSideAsked l.f.now l.g.now (take (length sums) (replicate 1024 (pos 0))) sums
+one-side {sums} l few e = record { length_a = e; length_b = l.same ∙ e; length_zeros = length-take-le _ _ few; none = zeros-at (length sums) 1024 }
 
-module _ (p : ℕ) (f g sums : List ℤ) where
+module _ (p : ℕ) (sums out : List ℤ) where
   abbrev n : ℕ
   n = length sums
 
   abbrev exchanged : (a b : Option Line) → ℕ → ℤ
-  exchanged a b k = wrap (at sums k +ℤ (line_value p f g a k -ℤ line_value p f g b k))
+  exchanged a b k = wrap (at sums k +ℤ (line_value p a k -ℤ line_value p b k))
 
-  pub both-lines : (out : List ℤ) (a b : Line) (i : Lies f g n a) (j : Lies f g n b) →
-      out ≡ tabulate n (λ k. wrap (at sums k +ℤ change_value p (pos 0) (at (lent-f f g n a i) k) (at (lent-g f g n a i) k) (at (lent-f f g n b j) k) (at (lent-g f g n b j) k))) → out ≡ tabulate n (exchanged (Some a) (Some b))
-  both-lines out a b i j o =
-      o ∙ tabulate-cong n _ (exchanged (Some a) (Some b)) (λ k k<. ap (λ (y : ℤ). wrap (at sums k +ℤ y))
-      (change-both p _ _ _ _ ∙ ap₂ (λ (y z : ℤ). y -ℤ z) (lent-value f g n a i p k k<) (lent-value f g n b j p k k<)))
+  pub both-lines : (a b : Line) → out ≡ tabulate n (λ k. wrap (at sums k +ℤ change_value p (pos 0) (at a.f.now k) (at a.g.now k) (at b.f.now k) (at b.g.now k))) → out ≡ tabulate n (exchanged (Some a) (Some b))
+  unfolding line_value
+  both-lines a b o =
+      tabulate-as n _ (exchanged (Some a) (Some b)) out o
+      (λ k. sym (ap (λ (y : ℤ). wrap (at sums k +ℤ y)) (change-both p (at a.f.now k) (at a.g.now k) (at b.f.now k) (at b.g.now k))))
 
-  pub first-line : (out : List ℤ) (a : Line) (i : Lies f g n a) →
-      out ≡ tabulate n (λ k. wrap (at sums k +ℤ (plane_value p (at (lent-f f g n a i) k) (at (lent-g f g n a i) k) -ℤ pos 0))) → out ≡ tabulate n (exchanged (Some a) None)
-  first-line out a i o =
-      o ∙ tabulate-cong n _ (exchanged (Some a) None) (λ k k<. ap (λ (y : ℤ). wrap (at sums k +ℤ y))
-      (ap₂ (λ (y z : ℤ). y -ℤ z) (lent-value f g n a i p k k<) (sym (line-off p f g k))))
+  pub first-line : (a : Line) → out ≡ tabulate n (λ k. wrap (at sums k +ℤ (plane_value p (at a.f.now k) (at a.g.now k) -ℤ pos 0))) → out ≡ tabulate n (exchanged (Some a) None)
+  unfolding line_value
+  first-line a o = o
 
-  pub second-line : (out : List ℤ) (b : Line) (j : Lies f g n b) →
-      out ≡ tabulate n (λ k. wrap (at sums k +ℤ (pos 0 -ℤ plane_value p (at (lent-f f g n b j) k) (at (lent-g f g n b j) k)))) → out ≡ tabulate n (exchanged None (Some b))
-  second-line out b j o =
-      o ∙ tabulate-cong n _ (exchanged None (Some b)) (λ k k<. ap (λ (y : ℤ). wrap (at sums k +ℤ y))
-      (ap₂ (λ (y z : ℤ). y -ℤ z) (sym (line-off p f g k)) (lent-value f g n b j p k k<)))
+  pub second-line : (b : Line) → out ≡ tabulate n (λ k. wrap (at sums k +ℤ (pos 0 -ℤ plane_value p (at b.f.now k) (at b.g.now k)))) → out ≡ tabulate n (exchanged None (Some b))
+  unfolding line_value
+  second-line b o = o
 
-  pub no_line : Numbers sums → sums ≡ tabulate n (exchanged None None)
-  no_line w =
-      is-tabulate sums n (exchanged None None) refl
-      (λ k k<. sym (ap (λ (y : ℤ). wrap (at sums k +ℤ y)) (ap₂ (λ (y z : ℤ). y -ℤ z) (line-off p f g k) (line-off p f g k)) ∙ ap wrap (+ℤ_idr (at sums k)) ∙ w.whole k))
+pub no_line : (p : ℕ) (sums : List ℤ) → Numbers sums → sums ≡ tabulate (length sums) (λ k. wrap (at sums k +ℤ (line_value p None k -ℤ line_value p None k)))
+no_line p sums w =
+    is-tabulate sums (length sums) (λ k. wrap (at sums k +ℤ (line_value p None k -ℤ line_value p None k))) refl
+    (λ k k<. sym (ap (λ (y : ℤ). wrap (at sums k +ℤ y)) (ap₂ (λ (y z : ℤ). y -ℤ z) (line-off p k) (line-off p k)) ∙ ap wrap (+ℤ_idr (at sums k)) ∙ w.whole k))
+
+-- ---- the row that leaves, if one does
+pub none-leaves : (x : Source) (n : ℕ) → pos 0 ≡ row_if_any x None n
+unfolding row_if_any
+none-leaves x n = refl
+
+pub one-leaves : (x : Source) (m n : ℕ) → plane_at x m n ≡ row_if_any x (Some m) n
+unfolding row_if_any
+one-leaves x m n = refl
+
+outside : (x : Source) (q : Counting) (w : CountingOf x q) (leave : Option ℕ) (n : ℕ) → n < x.size.columns → (q.columns.first ≤ n → n < q.columns.end → ⊥) → row_if_any x leave n ≡ pos 0
+unfolding row_if_any
+outside x q w None n n< never = refl
+outside x q w (Some m) n n< never = column-outside x q w m n n< never
 
 -- ---- whole: the columns that count lie from `first` up to `end`
-module _ (x : Source) (o along : Overlap) (v : Overlapping x.size.rows x.shift.down o) (h : Overlapping x.size.columns x.shift.right along)
-    (enter leave m : ℕ) (sums part : List ℤ) (a b : Option Line) (ea : a ≡ line_of x.size o along enter) (eb : b ≡ line_of x.size o along leave)
-    (room : length sums ≡ x.size.columns) (w : Numbers sums)
-    (e : part ≡ tabulate m (λ k. wrap (at (take (along.end - along.first) (drop along.first sums)) k +ℤ (line_value x.plane x.f x.g a k -ℤ line_value x.plane x.f x.g b k))))
-    (lent : length part ≡ length (take (along.end - along.first) (drop along.first sums))) where
+module _ (x : Source) (q : Counting) (w : CountingOf x q) (enter : ℕ) (leave : Option ℕ) (m : ℕ) (sums part : List ℤ) (a b : Option Line)
+    (entering : (k : ℕ) → k < line_length q → line_value x.plane a k ≡ row_value x.plane x q enter k)
+    (leaving : (k : ℕ) → k < line_length q → line_value x.plane b k ≡ row_if_any x leave (q.columns.first + k))
+    (room : length sums ≡ x.size.columns) (numbers : Numbers sums)
+    (e : part ≡ tabulate m (λ k. wrap (at (take (q.columns.end - q.columns.first) (drop q.columns.first sums)) k +ℤ (line_value x.plane a k -ℤ line_value x.plane b k))))
+    (lent : length part ≡ length (take (q.columns.end - q.columns.first) (drop q.columns.first sums))) where
   abbrev first : ℕ
-  first = along.first
+  first = q.columns.first
 
   abbrev end : ℕ
-  end = along.end
+  end = q.columns.end
+
+  abbrev h : Overlapping x.size.columns x.shift.right q.columns
+  h = w.columns
 
   l : length part ≡ end - first
-  l = lent ∙ slice-length first end sums h.ordered (omega (arith, h.within))
+  l = lent ∙ slice-length first end sums q.columns.ordered (omega (arith, h.within))
 
   abbrev exchanged-at : ℕ → ℤ
-  exchanged-at j = wrap (at sums j +ℤ (plane_at x enter j -ℤ plane_at x leave j))
+  exchanged-at j = wrap (at sums j +ℤ (plane_at x enter j -ℤ row_if_any x leave j))
 
   column-at : (j : ℕ) → j < x.size.columns → at (put_mid first (end - first) sums part) j ≡ exchanged-at j
   column-at j j< = go (dec_lt j first) (dec_lt j end)
     where
       none : (first ≤ j → j < end → ⊥) → at sums j ≡ exchanged-at j
       none no-column =
-          sym (ap (λ (y : ℤ). wrap (at sums j +ℤ y)) (ap₂ (λ (y z : ℤ). y -ℤ z) (column-outside x o along v h enter j j< no-column) (column-outside x o along v h leave j j< no-column)) ∙ ap wrap (+ℤ_idr (at sums j)) ∙ w.whole j)
+          sym (ap (λ (y : ℤ). wrap (at sums j +ℤ y)) (ap₂ (λ (y z : ℤ). y -ℤ z) (column-outside x q w enter j j< no-column) (outside x q w leave j j< no-column)) ∙ ap wrap (+ℤ_idr (at sums j)) ∙ numbers.whole j)
 
       go : Dec (j < first) → Dec (j < end) → at (put_mid first (end - first) sums part) j ≡ exchanged-at j
       go (yes before) d =
-          part-before first end sums part h.ordered (omega (arith, h.within)) l j before
+          part-before first end sums part q.columns.ordered (omega (arith, h.within)) l j before
           ∙ none (λ u v. omega arith)
       go (no c) (no behind) =
-          part-after first end sums part h.ordered (omega (arith, h.within)) l j (omega arith)
+          part-after first end sums part q.columns.ordered (omega (arith, h.within)) l j (omega arith)
           ∙ none (λ u v. omega arith)
       go (no c) (yes d) =
           let here : first + (j - first) ≡ j = omega arith in
           let k< : j - first < end - first = omega arith in
-          part-within first end sums part h.ordered (omega (arith, h.within)) l j (omega arith) d
+          part-within first end sums part q.columns.ordered (omega (arith, h.within)) l j (omega arith) d
           ∙ tabulate-at part m _ e (j - first) (omega (arith, l))
-          ∙ ap₂ (λ (y z : ℤ). wrap (y +ℤ z)) (slice_at first end sums h.ordered (omega (arith, h.within)) (j - first) k< ∙ ap (at sums) here)
+          ∙ ap₂ (λ (y z : ℤ). wrap (y +ℤ z)) (slice_at first end sums q.columns.ordered (omega (arith, h.within)) (j - first) k< ∙ ap (at sums) here)
           (ap₂ (λ (y z : ℤ). y -ℤ z)
-          (ap (λ (q : Option Line). line_value x.plane x.f x.g q (j - first)) ea ∙ line-value x o along v h enter (j - first) k< ∙ ap (plane_at x enter) here)
-          (ap (λ (q : Option Line). line_value x.plane x.f x.g q (j - first)) eb ∙ line-value x o along v h leave (j - first) k< ∙ ap (plane_at x leave) here))
+          (entering (j - first) k< ∙ row-value x q w enter (j - first) k< ∙ ap (plane_at x enter) here)
+          (leaving (j - first) k< ∙ ap (row_if_any x leave) here))
 
   pub exchange-done : put_mid first (end - first) sums part ≡ tabulate x.size.columns exchanged-at
   exchange-done =
       is-tabulate (put_mid first (end - first) sums part) x.size.columns exchanged-at
-      (part_length first end sums part h.ordered (omega (arith, h.within)) l ∙ room) column-at
+      (part_length first end sums part q.columns.ordered (omega (arith, h.within)) l ∙ room) column-at

@@ -1,40 +1,52 @@
-// Where the counting cells of a row stand in the pictures.
+// The cells of a row that count: their levels, and those of g that they meet.
 // For callers that have checked their inputs.
 #![tactic(auto)]
 
-ghost use Rattle.std.specs.Prelude.{◌≡◌, ◌-◌, IfSome};
-ghost use Rattle.lines.specs.Lines.{LineAsked, line_of, Lies};
+ghost use Rattle.std.specs.Prelude.{◌≡◌, ℕ, ◌<◌, IfSome};
+ghost use Rattle.picture.specs.Checked.{checked_source};
+ghost use Rattle.lines.specs.Lines.{line_length, CountingOf, LineAsked, HasCells, line_value, row_value};
 
-use overlaps::Overlap;
+use overlaps::{Overlap, overlap_of};
 use picture::CheckedSource;
 
-// A row of a plane: where the first of its cells that count stands in f and in g.
+mod line; // line.rt: the line of a row
+
+pub use line::Line;
+
+// The rows and the columns that count.
 #[derive(Clone, Copy)]
-pub struct Line {
-    pub f: usize,
-    pub g: usize,
+pub struct Counting {
+    pub rows: Overlap,
+    pub columns: Overlap,
 }
 
-// The line of a row, if its cells count; `counting` are the rows that count, and `along` the columns.
-pub fn line_of(
-    source: &CheckedSource<'_>,
-    counting: Overlap,
-    along: Overlap,
-    row: usize,
-) -> Option<Line>
-    requires { LineAsked source.now.size counting along }
-    ensures place { result ≡ line_of source.now.size counting along row }
-    ensures lies { IfSome result (Lies source.now.f.now source.now.g.now (along.end - along.first)) }
+// Which rows and columns of the picture count: "A cell (m, n) counts when it and (m+u, n+v) are both inside the picture."
+pub fn counting_of(source: &CheckedSource<'_>) -> Counting
+    ensures { CountingOf (checked_source source.now) result }
+{
+    Counting {
+        rows: overlap_of(source.size.rows, source.shift.down),
+        columns: overlap_of(source.size.columns, source.shift.right),
+    }
+}
+
+// The line of a row, if the row counts: of all columns that count, or of some of them.
+pub fn line_of<'a>(source: &CheckedSource<'a>, counting: Counting, row: usize) -> Option<Line<'a>>
+    requires { LineAsked source.now.size counting }
+    ensures cells { IfSome result (HasCells (line_length counting)) }
+    ensures values { (p k : ℕ) → k < line_length counting → line_value p result k ≡ row_value p (checked_source source.now) counting row k }
 {
     let columns = source.size.columns;
-    let top = counting.first;
-    if row < top || counting.end <= row {
+    let rows = counting.rows;
+    let along = counting.columns;
+    if row < rows.first || rows.end <= row {
         return None;
     }
-    let lo = row * columns;
-    let at = (counting.other + (row - top)) * columns;
+    let n = along.end - along.first;
+    let lo = row * columns + along.first;
+    let at = (rows.other + (row - rows.first)) * columns + along.other;
     Some(Line {
-        f: lo + along.first,
-        g: at + along.other,
+        f: &source.f[lo..lo + n],
+        g: &source.g[at..at + n],
     })
 }

@@ -26,19 +26,19 @@ fn every_row(
     let columns = inputs.source.size.columns;
     let ones = inputs.on_plane(Plane::One);
     let levels = inputs.on_plane(Plane::F);
-    let mut start = 0;
     for i in 0..rows {
+        let start = i * columns;
         let end = start + columns;
         next(i, &ones, counts, n);
         next(i, &levels, totals, s);
         let from = i % 16 * columns;
         let upto = from + columns;
         row_means(&n[from..upto], &s[from..upto], &mut out[start..end]);
-        start = end;
     }
 }
 
-// The means of a picture alone, with the room on the stack, since there is no heap. The arrays stand apart: two fields of one that is lent cannot be lent on together.
+// The means of a picture alone, with the room on the stack, since there is no heap. The arrays are no struct: `every_row` would lend two of its fields to a call,
+// and the check refuses what is lent as `&mut` behind a `&mut` that is lent itself. It was tried.
 pub fn whole(inputs: &CheckedInputs<'_>, out: &mut [i16])
     requires { SmoothAsked (checked_inputs inputs.now) out.old }
     ensures { out.new ≡ smoothed inputs.now.source.size inputs.now.source.f.now (given inputs.now.window) }

@@ -10,7 +10,12 @@ pub record Counted (n : ℤ) : Type 0 where
   pub some : pos 1 ≤ℤ n
   pub few : nat_abs n ≤ 65025
 
--- N and S of such a cell, with a level for its mean
+-- S of d cells, with a level for its mean
+pub record LevelSum (d : ℕ) (s : ℤ) : Type 0 where
+  pub small : nat_abs s ≤ 32768 * d
+  pub level : mag (nearest s d) < 2 ^ 15
+
+-- N and S of a cell that has a count, with a level for its mean
 pub record LevelMean (n s : ℤ) : Type 0 where
   pub count : Counted n
   pub small : nat_abs s ≤ 32768 * nat_abs n

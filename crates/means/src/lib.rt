@@ -4,40 +4,39 @@
 
 ghost use Rattle.std.specs.Prelude.{◌≡◌, nat_abs};
 ghost use Rattle.numbers.specs.Round.{nearest};
-ghost use Rattle.quotients.specs.Quotients.{reciprocal};
-ghost use Rattle.means.specs.Means.{Counted, LevelMean, MeansAsked, means_of};
+ghost use Rattle.means.specs.Means.{Counted, LevelSum, MeansAsked, means_of};
 
-// The reciprocal of N; `by` is that of `last`, which mostly is the same number.
-fn reciprocal_of(n: i64, last: u64, by: u64) -> u64
-    requires { Counted n × (by ≡ reciprocal last) }
-    ensures { result ≡ reciprocal (nat_abs n) }
+use quotients::Reciprocal;
+
+// The reciprocal of N; `last` mostly is of the same number.
+fn reciprocal_of(n: i64, last: Reciprocal) -> Reciprocal
+    requires { Counted n }
+    ensures { result.of ≡ nat_abs n }
 {
     let count = n as u64;
-    if count == last {
-        return by;
+    if count == last.of {
+        return last;
     }
-    quotients::reciprocal(count)
+    Reciprocal::new(count)
 }
 
-// The mean of a cell from its N and S; `by` is the reciprocal of N.
-fn mean(n: i64, s: i64, by: u64) -> i16
-    requires { LevelMean n s × (by ≡ reciprocal (nat_abs n)) }
-    ensures { result ≡ nearest s (nat_abs n) }
+// The mean of a cell from its S; `by` is the reciprocal of N.
+fn mean(s: i64, by: Reciprocal) -> i16
+    requires { LevelSum by.of s }
+    ensures { result ≡ nearest s by.of }
 {
-    quotients::nearest_by(s, n as u64, by) as i16
+    by.nearest_by(s) as i16
 }
 
-// The means of a row. Along a row N seldom changes, so its reciprocal is kept from cell to cell.
+// The means of a row, whose N and S stand in an area each, as the planes do. Along a row N seldom changes, so its reciprocal is kept from cell to
+// cell.
 pub fn row_means(n: &[i64], s: &[i64], out: &mut [i16])
     requires { MeansAsked n.now s.now out.old }
     ensures { out.new ≡ means_of n.now s.now out.old }
 {
-    let mut last: u64 = 1;
-    let mut by = quotients::reciprocal(last);
+    let mut by = Reciprocal::new(1);
     for j in 0..out.len() {
-        let count = n[j];
-        by = reciprocal_of(count, last, by);
-        last = count as u64;
-        out[j] = mean(count, s[j], by);
+        by = reciprocal_of(n[j], by);
+        out[j] = mean(s[j], by);
     }
 }

@@ -15,28 +15,19 @@ use statistics::Sums;
 pub fn mean(z: Sums) -> Result<Option<i64>, Refusal>
     ensures { optional_outcome result ≡ mean_call z }
 {
-    let Some(m) = central_moments(z)? else {
-        return Ok(None);
-    };
-    Ok(Some(nearest(z.s, m.count)))
+    Ok(central_moments(z)?.map(|m| nearest(z.s, m.count)))
 }
 
 // "Variance of f: the whole number nearest Vf/N², a half going up."
 pub fn variance(z: Sums) -> Result<Option<i64>, Refusal>
     ensures { optional_outcome result ≡ variance_call z }
 {
-    let Some(m) = central_moments(z)? else {
-        return Ok(None);
-    };
-    Ok(Some(nearest(m.vf as i64, m.count * m.count)))
+    Ok(central_moments(z)?.map(|m| nearest(m.vf as i64, m.count * m.count)))
 }
 
 // "Deviation of f: the whole d with d²·N² ≤ Vf < (d+1)²·N², taken of the unrounded variance."
 pub fn deviation(z: Sums) -> Result<Option<i64>, Refusal>
     ensures { optional_outcome result ≡ deviation_call z }
 {
-    let Some(m) = central_moments(z)? else {
-        return Ok(None);
-    };
-    Ok(Some(whole_root(m.vf, m.count * m.count) as i64))
+    Ok(central_moments(z)?.map(|m| whole_root(m.vf, m.count * m.count) as i64))
 }

@@ -13,7 +13,7 @@ use mir.Syntax.{w32}
 use mir.Val.{SFits, of_z, to_z}
 use Rattle.numbers.proofs.Tests.{and_left, and_right, and_both, same_test, off}
 use Rattle.numbers.proofs.Wraps.{sub_low, sub-high}
-use Rattle.overlaps.specs.declared.Overlap.{Overlap}
+use Rattle.overlaps.specs.declared.overlap.Overlap.{Overlap}
 use Rattle.picture.specs.Size.{in_range}
 use Rattle.overlaps.specs.Overlaps.{Overlapping}
 
@@ -34,8 +34,8 @@ module _ (lo hi k : ℕ) where
   pub not_among : (lo ≤ k → k < hi → ⊥) → T test → ⊥
   not_among never t = never (among-from t) (among-upto t)
 
-abbrev overlap : (first end other : ℕ) → Overlap
-overlap first end other = record { first = first; end = end; other = other }
+abbrev overlap : (first end other : ℕ) → first ≤ end → Overlap
+overlap first end other p = record { first = first; end = end; other = other; ordered = p }
 
 -- ---- a place k that is shifted by d
 on : (n k d : ℕ) → in_range n (pos k +ℤ pos d) ≡ ltb (k + d) n
@@ -66,9 +66,8 @@ no_place : (k : ℕ) → (leb 0 k && ltb k 0) ≡ false
 no_place k = off (leb 0 k && ltb k 0) (λ t. omega (arith, among-upto 0 0 k t))
 
 -- ---- the three cases of the code: no place counts, g lies before, g lies behind
-pub overlap-none : (n : ℕ) (d : ℤ) (far : ℕ) → far ≡ nat_abs d → n ≤ far → Overlapping n d (overlap 0 0 0)
-overlap-none n d far e h = record {
-  ordered = omega arith;
+pub overlap-none : (n : ℕ) (d : ℤ) (far : ℕ) → far ≡ nat_abs d → n ≤ far → (p : 0 ≤ 0) → Overlapping n d (overlap 0 0 0 p)
+overlap-none n d far e h p = record {
   within = omega arith;
   other_within = omega arith;
   counts = λ k k<. none d (omega (arith, e)) k k< ∙ sym (no_place k);
@@ -79,10 +78,9 @@ overlap-none n d far e h = record {
     none (pos d) h k k< = on n k d ∙ off (ltb (k + d) n) (λ t. omega (arith, ltb→lt (k + d) n t))
     none (negsuc d) h k k< = back_low n k (suc d) (omega arith)
 
-pub overlap-before : (n : ℕ) (d : ℤ) (far : ℕ) → far ≡ nat_abs d → far < n → lt_z d (pos 0) ≡ true → Overlapping n d (overlap far n 0)
+pub overlap-before : (n : ℕ) (d : ℤ) (far : ℕ) → far ≡ nat_abs d → far < n → lt_z d (pos 0) ≡ true → (p : far ≤ n) → Overlapping n d (overlap far n 0 p)
 overlap-before n (pos d) far e h t = absurd (omega (arith, ltb→lt d 0 (rw t tt)))
-overlap-before n (negsuc d) far e h t = rw e (record {
-  ordered = omega (arith, e);
+overlap-before n (negsuc d) far e h t = rw e (λ p. record {
   within = omega arith;
   other_within = omega arith;
   counts = λ k k<. back n k (suc d) ∙ same_test (leb (suc d) k && ltb k (n + suc d)) (leb (suc d) k && ltb k n)
@@ -91,9 +89,8 @@ overlap-before n (negsuc d) far e h t = rw e (record {
   place = λ k a b. ap nat_abs (sub-high k (suc d) a) ∙ omega arith;
 })
 
-pub overlap-behind : (n : ℕ) (d : ℤ) (far : ℕ) → far ≡ nat_abs d → far < n → lt_z d (pos 0) ≡ false → Overlapping n d (overlap 0 (n - far) far)
-overlap-behind n (pos d) far e h t = rw e (record {
-  ordered = omega arith;
+pub overlap-behind : (n : ℕ) (d : ℤ) (far : ℕ) → far ≡ nat_abs d → far < n → lt_z d (pos 0) ≡ false → (p : 0 ≤ n - far) → Overlapping n d (overlap 0 (n - far) far p)
+overlap-behind n (pos d) far e h t = rw e (λ p. record {
   within = omega arith;
   other_within = omega (arith, e);
   counts = λ k k<. on n k d ∙ same_test (ltb (k + d) n) (leb 0 k && ltb k (n - d))

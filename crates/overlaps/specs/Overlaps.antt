@@ -1,12 +1,11 @@
 -- The places that count along one side of the picture.
 -- Assumes nothing.
 use Rattle.std.specs.Prelude.{◌≡◌, ℕ, ◌+◌, ◌-◌, ◌^◌, ◌≤◌, ◌<◌, ◌&&◌, leb, ltb, ℤ, pos, nat_abs, ◌+ℤ◌}
-use Rattle.overlaps.specs.declared.Overlap.{Overlap}
+use Rattle.overlaps.specs.declared.overlap.Overlap.{Overlap}
 use Rattle.picture.specs.Size.{in_range}
 
 -- the places from `first` up to `end` are those of the n places k for which k + d is one of them too, and k + d is as far from `other` as k is from `first`
 pub record Overlapping (n : ℕ) (d : ℤ) (o : Overlap) : Type 0 where
-  pub ordered : o.first ≤ o.end
   pub within : o.end ≤ n
   pub other_within : o.other + (o.end - o.first) ≤ n
   pub counts : (k : ℕ) → k < n → in_range n (pos k +ℤ d) ≡ (leb o.first k && ltb k o.end)
@@ -20,7 +19,6 @@ pub record ClipAsked (o : Overlap) (lo hi : ℕ) : Type 0 where
 -- of the places from lo up to hi those that count in o are those from `first` up to `end`, and they have the same places of g
 pub record Clipped (o : Overlap) (lo hi : ℕ) (r : Overlap) : Type 0 where
   pub from : lo ≤ r.first
-  pub ordered : r.first ≤ r.end
   pub upto : r.end ≤ hi
   pub other_within : r.other + (r.end - r.first) ≤ o.other + (o.end - o.first)
   pub counts : (k : ℕ) → lo ≤ k → k < hi → (leb o.first k && ltb k o.end) ≡ (leb r.first k && ltb k r.end)

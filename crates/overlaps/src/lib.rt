@@ -5,14 +5,9 @@
 ghost use Rattle.std.specs.Prelude.{◌≡◌};
 ghost use Rattle.overlaps.specs.Overlaps.{Overlapping, ClipAsked, Clipped};
 
-// The places that count along one side of the picture under a shift: from `first` up to `end`; the place of g that belongs to
-// `first` is `other`.
-#[derive(Clone, Copy)]
-pub struct Overlap {
-    pub first: usize,
-    pub end: usize,
-    pub other: usize,
-}
+mod overlap; // overlap.rt: the places that count along one side
+
+pub use overlap::Overlap;
 
 // Which of n places count where those of g are shifted by `by`.
 pub fn overlap_of(n: usize, by: i32) -> Overlap

@@ -15,45 +15,47 @@ use Rattle.numbers.specs.Grid.{tabulate}
 use Rattle.numbers.proofs.Grids.{length-tabulate}
 use Rattle.numbers.proofs.Sums.{pick_yes, pick_no}
 use Rattle.numbers.proofs.Writes.{at, is-tabulate, tabulate-at, part-before, part-within, part-after, part_length, slice-length}
-use Rattle.overlaps.specs.declared.Overlap.{Overlap}
 use Rattle.overlaps.specs.Overlaps.{Overlapping}
 use Rattle.picture.specs.declared.checked.CheckedSource.{CheckedSource}
 use Rattle.picture.specs.Picture.{Source, plane_value, plane_at}
 use Rattle.picture.specs.Checked.{checked_source}
-use Rattle.picture.proofs.Planes.{plane-past, plane-beside}
+use Rattle.picture.proofs.Planes.{plane-beside}
 use Rattle.picture.proofs.Found.{limits}
-use Rattle.lines.specs.declared.Line.{Line}
-use Rattle.lines.specs.Lines.{line_of, line_value, Lies}
-use Rattle.lines.proofs.LineValues.{line-value, column-outside}
-use Rattle.lines.proofs.Exchanges.{line-off, lent-f, lent-g, lent-value}
+use Rattle.lines.specs.declared.Counting.{Counting}
+use Rattle.lines.specs.declared.line.Line.{Line}
+use Rattle.lines.specs.Lines.{line_length, CountingOf, line_value, row_value}
+use Rattle.lines.proofs.LineValues.{line-off, line-on, row-value, column-outside}
 use Rattle.slopes.specs.Slopes.{padded}
 use Rattle.slopes.proofs.Moves.{pick-zero}
 use Rattle.slopes.specs.Leans.{Blank, Holds}
 
 -- ---- row m of a plane, by its line
-module _ (x : Source) (o along : Overlap) (v : Overlapping x.size.rows x.shift.down o) (h : Overlapping x.size.columns x.shift.right along)
-    (m : ℕ) (l : Option Line) (e : l ≡ line_of x.size o along m) (n : ℕ) (zeros : List ℤ) (room : n ≡ x.size.columns) (z : zeros ≡ tabulate n (λ k. pos 0)) where
+module _ (x : Source) (o : Counting) (c : CountingOf x o) (m : ℕ) (l : Option Line) (found : (k : ℕ) → k < line_length o → line_value x.plane l k ≡ row_value x.plane x o m k)
+    (n : ℕ) (zeros : List ℤ) (room : n ≡ x.size.columns) (z : zeros ≡ tabulate n (λ k. pos 0)) where
   abbrev columns : ℕ
   columns = x.size.columns
 
   abbrev first : ℕ
-  first = along.first
+  first = o.columns.first
 
   abbrev end : ℕ
-  end = along.end
+  end = o.columns.end
+
+  abbrev h : Overlapping x.size.columns x.shift.right o.columns
+  h = c.columns
 
   length_zeros : length zeros ≡ columns
   length_zeros = ap length z ∙ length-tabulate n (λ k. pos 0) ∙ room
 
   -- a column that does not count
   outside : (j : ℕ) → j < columns → (first ≤ j → j < end → ⊥) → at zeros j ≡ plane_at x m j
-  outside j j< never = tabulate-at zeros n (λ k. pos 0) z j (omega (arith, length_zeros)) ∙ sym (column-outside x o along v h m j j< never)
+  outside j j< never = tabulate-at zeros n (λ k. pos 0) z j (omega (arith, length_zeros)) ∙ sym (column-outside x o c m j j< never)
 
   -- one that counts
-  inner : (j : ℕ) → first ≤ j → j < end → line_value x.plane x.f x.g l (j - first) ≡ plane_at x m j
+  inner : (j : ℕ) → first ≤ j → j < end → line_value x.plane l (j - first) ≡ plane_at x m j
   inner j a b =
       let here : first + (j - first) ≡ j = omega arith in
-      ap (λ (q : Option Line). line_value x.plane x.f x.g q (j - first)) e ∙ line-value x o along v h m (j - first) (omega arith) ∙ ap (plane_at x m) here
+      found (j - first) (omega arith) ∙ row-value x o c m (j - first) (omega arith) ∙ ap (plane_at x m) here
 
   pub row-none : l ≡ None → zeros ≡ tabulate columns (plane_at x m)
   row-none off = is-tabulate zeros columns (plane_at x m) length_zeros (λ j j<. each j j< (dec_lt j first) (dec_lt j end))
@@ -63,30 +65,29 @@ module _ (x : Source) (o along : Overlap) (v : Overlapping x.size.rows x.shift.d
       each j j< (no a) (no b) = outside j j< (λ u w. omega arith)
       each j j< (no a) (yes b) =
           tabulate-at zeros n (λ k. pos 0) z j (omega (arith, length_zeros))
-          ∙ sym (line-off x.plane x.f x.g (j - first)) ∙ ap (λ (q : Option Line). line_value x.plane x.f x.g q (j - first)) (sym off) ∙ inner j (omega arith) b
+          ∙ sym (line-off x.plane (j - first)) ∙ ap (λ (q : Option Line). line_value x.plane q (j - first)) (sym off) ∙ inner j (omega arith) b
 
-  module _ (on : Line) (is : l ≡ Some on) (i : Lies x.f x.g (end - first) on) (q : ℕ) (part : List ℤ)
-      (w : part ≡ tabulate q (λ k. plane_value x.plane (at (lent-f x.f x.g (end - first) on i) k) (at (lent-g x.f x.g (end - first) on i) k))) (lent : length part ≡ length (take (end - first) (drop first zeros))) where
+  module _ (on : Line) (is : l ≡ Some on) (q : ℕ) (part : List ℤ) (w : part ≡ tabulate q (λ k. plane_value x.plane (at on.f.now k) (at on.g.now k))) (lent : length part ≡ length (take (end - first) (drop first zeros))) where
     fits : end ≤ length zeros
     fits = omega (arith, h.within, length_zeros)
 
     size : length part ≡ end - first
-    size = lent ∙ slice-length first end zeros h.ordered fits
+    size = lent ∙ slice-length first end zeros o.columns.ordered fits
 
     column-at : (j : ℕ) → j < columns → Dec (j < first) → Dec (j < end) → at (put_mid first (end - first) zeros part) j ≡ plane_at x m j
-    column-at j j< (yes a) d = part-before first end zeros part h.ordered fits size j a ∙ outside j j< (λ u w. omega arith)
-    column-at j j< (no a) (no b) = part-after first end zeros part h.ordered fits size j (omega arith) ∙ outside j j< (λ u w. omega arith)
+    column-at j j< (yes a) d = part-before first end zeros part o.columns.ordered fits size j a ∙ outside j j< (λ u w. omega arith)
+    column-at j j< (no a) (no b) = part-after first end zeros part o.columns.ordered fits size j (omega arith) ∙ outside j j< (λ u w. omega arith)
     column-at j j< (no a) (yes b) =
-        part-within first end zeros part h.ordered fits size j (omega arith) b
+        part-within first end zeros part o.columns.ordered fits size j (omega arith) b
         ∙ tabulate-at part q _ w (j - first) (omega (arith, size))
-        ∙ lent-value x.f x.g (end - first) on i x.plane (j - first) (omega arith)
-        ∙ ap (λ (q : Option Line). line_value x.plane x.f x.g q (j - first)) (sym is)
+        ∙ line-on x.plane on (j - first)
+        ∙ ap (λ (q : Option Line). line_value x.plane q (j - first)) (sym is)
         ∙ inner j (omega arith) b
 
     pub row-some : put_mid first (end - first) zeros part ≡ tabulate columns (plane_at x m)
     row-some =
         is-tabulate (put_mid first (end - first) zeros part) columns (plane_at x m)
-        (part_length first end zeros part h.ordered fits size ∙ length_zeros) (λ j j<. column-at j j< (dec_lt j first) (dec_lt j end))
+        (part_length first end zeros part o.columns.ordered fits size ∙ length_zeros) (λ j j<. column-at j j< (dec_lt j first) (dec_lt j end))
 
 -- ---- a row that was put where it belongs among zeros
 module _ (x : CheckedSource) (y : ℕ) (buf part : List ℤ) (given : Blank (map (λ (v : ℤ). v) buf) x.size.columns)
@@ -129,12 +130,9 @@ module _ (x : CheckedSource) (y : ℕ) (buf part : List ℤ) (given : Blank (map
     each = λ z. place_at F n e h z (dec_lt z 256) (dec_lt z (256 + width));
   })
 
-  -- the plane has no such row above its first, nor below its last
+  -- the plane has no such row above its first
   pub load-above : y < 128 → (n : ℕ) → part ≡ tabulate n (λ k. pos 0) → Holds (map (λ (v : ℤ). v) put) (padded P y)
   load-above h n e = loaded (λ k. pos 0) n e (λ k k<. sym (pick_no (leb 128 y) (P (y - 128) k) (λ t. omega (arith, leb→le 128 y t))))
-
-  pub load_below : 128 ≤ y → x.size.rows ≤ y - 128 → (n : ℕ) → part ≡ tabulate n (λ k. pos 0) → Holds (map (λ (v : ℤ). v) put) (padded P y)
-  load_below h below n e = loaded (λ k. pos 0) n e (λ k k<. sym (pick_yes (leb 128 y) (P (y - 128) k) (le→leb 128 y h) ∙ plane-past (checked_source x) (y - 128) k below))
 
   pub load_row : 128 ≤ y → (n : ℕ) → part ≡ tabulate n (P (y - 128)) → Holds (map (λ (v : ℤ). v) put) (padded P y)
   load_row h n e = loaded (P (y - 128)) n e (λ k k<. sym (pick_yes (leb 128 y) (P (y - 128) k) (le→leb 128 y h)))

@@ -9,6 +9,7 @@ ghost use Rattle.std.proofs.Common.{arith};
 ghost use Rattle.picture.proofs.Planes.{plane-level};
 
 use crate::PlaneValue;
+use lines::{Line, counting_of, line_of};
 use picture::{CheckedSource, Plane};
 
 // Every number of out is the value. One function for this and `plane_values::fill` is no plainer: of a type parameter the library's fill asks that its clone
@@ -28,16 +29,16 @@ fn copy(levels: &[i16], out: &mut [i16])
     out.copy_from_slice(levels);
 }
 
-// The plane's values where all cells count: a has the levels of f, and b those of g.
+// The plane's values at the cells of a line.
 #[tactic(auto, unfolding(picture::specs::Picture::plane_value))]
-fn values(plane: Plane, a: &[i16], b: &[i16], out: &mut [i16])
-    requires { (plane_number plane ≤ 2) × (length a.now ≡ length out.old) × (length b.now ≡ length out.old) }
-    ensures { out.new ≡ tabulate (length out.old) (λ k. plane_value (plane_number plane) (get_or a.now k (pos 0)) (get_or b.now k (pos 0))) }
+fn values(plane: Plane, line: Line<'_>, out: &mut [i16])
+    requires { (plane_number plane ≤ 2) × (length line.f.now ≡ length out.old) }
+    ensures { out.new ≡ tabulate (length out.old) (λ k. plane_value (plane_number plane) (get_or line.entry.f.now k (pos 0)) (get_or line.entry.g.now k (pos 0))) }
 {
     match plane {
         Plane::One => fill(out, 1),
-        Plane::F => copy(a, out),
-        Plane::G => copy(b, out),
+        Plane::F => copy(line.f, out),
+        Plane::G => copy(line.g, out),
         Plane::FSquared | Plane::GSquared | Plane::Product => unreachable!(),
     }
 }
@@ -47,17 +48,11 @@ fn row(source: &CheckedSource<'_>, row: usize, out: &mut [i16])
     requires { (plane_number source.now.plane ≤ 2) × (length out.old ≡ source.now.size.columns) }
     ensures { out.new ≡ tabulate source.now.size.columns (plane_at (checked_source source.now) row) }
 {
-    let counting = overlaps::overlap_of(source.size.rows, source.shift.down);
-    let along = overlaps::overlap_of(source.size.columns, source.shift.right);
+    let counting = counting_of(source);
+    let along = counting.columns;
     fill(out, 0);
-    if let Some(line) = lines::line_of(source, counting, along, row) {
-        let n = along.end - along.first;
-        values(
-            source.plane,
-            &source.f[line.f..line.f + n],
-            &source.g[line.g..line.g + n],
-            &mut out[along.first..along.end],
-        );
+    if let Some(line) = line_of(source, counting, row) {
+        values(source.plane, line, &mut out[along.first..along.end]);
     }
 }
 

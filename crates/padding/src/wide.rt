@@ -30,11 +30,6 @@ impl PlaneValue for i64 {
             plane_values::fill(&mut buf[left..right], 0);
             return;
         }
-        let row = y - 128;
-        if row < source.size.rows {
-            planes::part(source, row, 0, &mut buf[left..right]);
-            return;
-        }
-        plane_values::fill(&mut buf[left..right], 0);
+        planes::part(source, y - 128, &mut buf[left..right]);
     }
 }

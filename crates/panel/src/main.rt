@@ -8,7 +8,8 @@ ghost use Rattle.panel_language.specs.Panel.{panel};
 use std::io;
 use std::io::{Read, Write};
 
-// An area of so many bytes. The contract gives the length alone, which is all that its callers need.
+// An area of so many bytes: an array, since there is no heap; that of `panel_text` is of levels. The contract gives the length alone, which is all that
+// its callers need.
 fn area<const N: usize>() -> [u8; N]
     ensures { N ≡ length result }
 {
@@ -40,7 +41,7 @@ fn run<R: Read, W: Write>(from: &mut R, to: &mut W) -> io::Result<()>
     // Room for the longest input that is taken, and for one byte more, which tells a longer input.
     let mut text = area::<65537>();
     // Room for the longest output.
-    let mut out = area::<28672>();
+    let mut out = area::<{ panel_text::ROOM }>();
     let n = read_full(from, &mut text)?;
     let count = panel_text::render(&text[..n], &mut out);
     to.write_all(&out[..count])

@@ -1,5 +1,5 @@
 // From the numbers of panel's output to bytes: decimal digits, a line of means, all lines, and the line of a refusal. Each writes to the front of the
-// area and answers how many bytes it wrote.
+// area and answers how many bytes it wrote: a writer that held both would be lent by `&mut` to each of them, and say in every contract what it held before.
 #![tactic(auto)]
 
 ghost use Rattle.std.specs.Prelude.{◌*◌, ◌≤◌, ◌∷◌, [], ◌++◌, length};
@@ -10,7 +10,8 @@ ghost use Rattle.panel_print.specs.Print.{Written, Fitted, LineRoom, LineWritten
 
 use picture::{Refusal, Size};
 
-// The decimal digits of n. By hand, since std has them by `write!` alone, which wants an `fmt::Write` for the area and an error for want of room.
+// The decimal digits of n. By hand, since std has them by `write!` alone, which wants an `fmt::Write` for the area and an error for want of room; the kit's
+// `itoa` writes them up to an end that is known, or into an area of its own to be copied from, and they begin here where the last bytes ended.
 fn digits(n: u64, out: &mut [u8]) -> usize
     requires { length (decimal n) ≤ length out.old }
     ensures { Written (decimal n) out.old out.new result }

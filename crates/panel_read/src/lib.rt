@@ -57,7 +57,8 @@ fn read_window(numbers: &mut Numbers) -> Result<Window, Refusal>
     })
 }
 
-// The size and the window of the picture that the text asks for; its levels are the first of the area.
+// The size and the window of the picture that the text asks for; its levels are the first of the area. As given and in no checked type, since
+// `smoothing::smooth`, for which they are read, checks what any caller gives.
 pub fn parse(text: &[u8], levels: &mut [i16]) -> Result<(Size, Window), Refusal>
     requires { 4096 ≤ length levels.old }
     ensures { parsed text.now ≡ drawn result levels.new }

@@ -29,7 +29,7 @@ fn run_end(text: &[u8]) -> Option<usize>
     text.iter().position(|b| is_divider(*b))
 }
 
-// "1 to 9 digits"
+// "1 to 9 digits". By hand: std's `parse` takes a plus sign before them, and a `&str`, which the bytes of a text need not be.
 fn natural(run: &[u8]) -> Option<u32>
     ensures value { result ≡ natural run.now }
     ensures small { IfSome result (λ n. n ≤ 999999999) }

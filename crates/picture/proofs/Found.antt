@@ -13,10 +13,10 @@ use Rattle.picture.specs.Conditions.{picture_checks}
 use Rattle.picture.proofs.Refusals.{InLimits, in-limits, none-head, none_rest}
 use Rattle.picture.specs.Size.{size_legal, cells}
 use Rattle.picture.specs.Window.{window_legal}
-use Rattle.picture.specs.Picture.{Source, Inputs, Levels}
+use Rattle.picture.specs.Picture.{Inputs, Levels}
 use Rattle.picture.specs.declared.checked.CheckedSource.{CheckedSource}
 use Rattle.picture.specs.declared.checked.CheckedInputs.{CheckedInputs}
-use Rattle.picture.specs.Checked.{checked_source, checked_inputs}
+use Rattle.picture.specs.Checked.{checked_inputs}
 
 -- pictures that pass 1 and 2
 pub record Lengths (z : Size) (f g : List ℤ) : Type 0 where
@@ -34,15 +34,7 @@ lengths z f g e =
       length_g = eqb→eq (length g) (cells z) (of-not (eqb (length g) (cells z)) (none-head 2 _ _ (none_rest 2 _ _ two)));
     }
 
--- pictures of levels, of a legal size
-pub record Pictures (x : Source) : Type 0 where
-  pub size : T (size_legal x.size)
-  pub length_f : length x.f ≡ cells x.size
-  pub length_g : length x.g ≡ cells x.size
-  pub levels_f : Levels x.f
-  pub levels_g : Levels x.g
-
--- the same, and a legal window
+-- pictures of levels, of a legal size, and a legal window
 pub record Checked (x : Inputs) : Type 0 where
   pub size : T (size_legal x.source.size)
   pub length_f : length x.source.f ≡ cells x.source.size
@@ -51,16 +43,10 @@ pub record Checked (x : Inputs) : Type 0 where
   pub levels_g : Levels x.source.g
   pub window : T (window_legal x.window)
 
-pub pictures : (x : CheckedSource) → Pictures (checked_source x)
-pictures x = record { size = x.legal; length_f = x.length_f; length_g = x.length_g; levels_f = x.levels_f; levels_g = x.levels_g }
-
 pub checked : (x : CheckedInputs) → Checked (checked_inputs x)
 checked x =
     let s = x.source in
     record { size = s.legal; length_f = s.length_f; length_g = s.length_g; levels_f = s.levels_f; levels_g = s.levels_g; window = x.window.legal }
-
-pub pictures-of : (x : Inputs) → Checked x → Pictures x.source
-pictures-of x h = record { size = h.size; length_f = h.length_f; length_g = h.length_g; levels_f = h.levels_f; levels_g = h.levels_g }
 
 pub limits : (x : CheckedSource) → InLimits x.size
 limits x = in-limits x.size x.legal

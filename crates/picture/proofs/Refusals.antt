@@ -8,8 +8,7 @@ use mathlib.Core.Option.{Option, none, some}
 use lib.Dec.{T, leb, ltb, eqb, leb→le, ltb→lt, eqb→eq, eqb_refl, lt→ltb}
 use lib.ListN.{length}
 use lib.IntN.{ℤ}
-use Rattle.std.proofs.Math.Facts.{leb_no, no_leb}
-use Rattle.numbers.proofs.Tests.{off, and_left, and_right, and_both, of-not, not-of, same_test}
+use Rattle.numbers.proofs.Tests.{off, and_left, and_right, and_both, of-not, not-of}
 use Rattle.picture.specs.Refusal.{Outcome, Check, ◌when◌, refused, answered, refusal, outcome, filling, numbers_of}
 use Rattle.std.specs.Prelude as code
 use Rattle.std.specs.Prelude.{Result, Ok, Err, IsErrAnd}
@@ -93,10 +92,6 @@ unfolding refusal
 unsound n true m h = cc
 unsound n false m h = (tt, cc)
 
-pub stop-here : (r : Result Unit Refusal) (e : Refusal) (n : ℕ) (c : Bool) (rest : List Check) → T c → number e ≡ n → IsErrAnd r (λ y. y ≡ e) → refused_by r ≡ refusal ((n when c) ∷ rest)
-stop-here (Ok u) e n c rest t k q = absurd q
-stop-here (Err y) e n c rest t k q = rw (q, k) (sym (stop n c rest t))
-
 pub line-refuses : (r : Result Unit Refusal) (e : Refusal) (n : ℕ) (s b : Bool) (rest : List Check) → s ≡ b → some (number e) ≡ refusal ((n when not s) ∷ []) → IsErrAnd r (λ y. y ≡ e) → refused_by r ≡ refusal ((n when not b) ∷ rest)
 line-refuses r e n s b rest t h q = rw (sym t) (refuses-here r e ((n when not s) ∷ []) rest h q)
 
@@ -108,16 +103,6 @@ line-passes m n s b rest t h k = rw (sym t) (passes-here m ((n when not s) ∷ [
 
 pub line-last : (m : Option ℕ) (n : ℕ) (s b : Bool) → s ≡ b → m ≡ refusal ((n when not s) ∷ []) → m ≡ refusal ((n when not b) ∷ [])
 line-last m n s b t h = rw (sym t) h
-
--- check 5 wants a plane up to 5
-plane-above : (p : ℕ) → not (leb p 5) ≡ ltb 5 p
-plane-above p = same_test (not (leb p 5)) (ltb 5 p) (λ t. lt→ltb 5 p (leb_no t)) (λ t. no_leb (ltb→lt 5 p t))
-
-pub plane-refuses : (r : Result Unit Refusal) (e : Refusal) (p : ℕ) (rest : List Check) → some (number e) ≡ refusal ((5 when not (leb p 5)) ∷ []) → IsErrAnd r (λ y. y ≡ e) → refused_by r ≡ refusal ((5 when ltb 5 p) ∷ rest)
-plane-refuses r e p rest h q = rw (sym (plane-above p)) (refuses-here r e ((5 when not (leb p 5)) ∷ []) rest h q)
-
-pub plane-passes : (m : Option ℕ) (p : ℕ) (rest : List Check) → none ≡ refusal ((5 when not (leb p 5)) ∷ []) → m ≡ refusal rest → m ≡ refusal ((5 when ltb 5 p) ∷ rest)
-plane-passes m p rest h k = rw (sym (plane-above p)) (passes-here m ((5 when not (leb p 5)) ∷ []) rest h k)
 
 -- the outcome
 pub outcome-none : {A : Type 0} (r : Option ℕ) (a : A) → r ≡ none → outcome r a ≡ answered a

@@ -16,6 +16,19 @@ pub struct CheckedWindow {
     pub ghost legal: { T (window_legal (window (shape_number shape) first second)) },
 }
 
+// Two pictures of a legal size.
+#[derive(Clone, Copy)]
+pub struct CheckedPictures<'a> {
+    pub size: Size,
+    pub f: &'a [i16],
+    pub g: &'a [i16],
+    pub ghost legal: { T (size_legal size) },
+    pub ghost length_f: { length f.now ≡ cells size },
+    pub ghost length_g: { length g.now ≡ cells size },
+    pub ghost levels_f: { Levels f.now },
+    pub ghost levels_g: { Levels g.now },
+}
+
 // Two pictures of a legal size, a legal shift, and a plane.
 #[derive(Clone, Copy)]
 pub struct CheckedSource<'a> {
@@ -45,7 +58,7 @@ impl<'a> CheckedInputs<'a> {
     ghost use Rattle.picture.specs.Plane.{plane_number};
     ghost use Rattle.picture.specs.Checked.{given, checked_inputs};
 
-    // The same inputs with another plane.
+    // The same inputs with another plane. Field by field, since a literal of a struct with ghost fields takes no `..`.
     pub fn on_plane(&self, plane: Plane) -> CheckedInputs<'a>
         ensures { checked_inputs result ≡ inputs self.now.source.size self.now.source.f.now self.now.source.g.now (given self.now.window) self.now.source.shift (plane_number plane) }
     {

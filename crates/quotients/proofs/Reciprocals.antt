@@ -15,7 +15,7 @@ use Rattle.numbers.proofs.Integers.{add-law, sub-lawℤ, leℤ, ltℤ, of_eq}
 use Rattle.numbers.proofs.Magnitudes.{size-mul, size-add}
 use Rattle.numbers.proofs.Ring.{X, ◌⊖◌, ◌⊗◌, ring}
 use Rattle.numbers.proofs.Rounds.{nearest-law, nearest-unique}
-use Rattle.quotients.specs.Quotients.{Dividend}
+use Rattle.quotients.specs.Quotients.{reciprocal}
 
 -- With M d = 2^64 - t and x = q d + r, the product (x + 1) M is q 2^64 and (r + 1) M - q t, which is between 0 and 2^64.
 module _ (x d : ℕ) (some : 0 < d) (few : d ≤ 2 ^ 20) (small : x < 2 ^ 40) where
@@ -72,6 +72,13 @@ nearest-raised x d u some e =
     })
     (nearest-law x d some)
 
+-- a sum of d levels, and the reciprocal of d
+pub record Dividend (x : ℤ) (d by : ℕ) : Type 0 where
+  pub some : 0 < d
+  pub few : d ≤ 65025
+  pub small : nat_abs x ≤ 32768 * d
+  pub known : by ≡ reciprocal d
+
 -- the upper word of the product, where the code holds its signed numbers as bits
 module _ (x : ℤ) (fits : SFits w64 x) (d by : ℕ) (h : Dividend x d by) (high low : ℕ) (l : low < 2 ^ 64) where
   abbrev held : ℤ
@@ -81,7 +88,7 @@ module _ (x : ℤ) (fits : SFits w64 x) (d by : ℕ) (h : Dividend x d by) (high
   raised = pos 2 *ℤ x +ℤ pos (65537 * d)
 
   held-is : held ≡ raised
-  held-is = omega (arith, ints, h.divisor.few, h.small)
+  held-is = omega (arith, ints, h.few, h.small)
 
   raised-size : nat_abs raised ≤ 131073 * d
   raised-size = omega (arith, h.small, size-mul (pos 2) x, size-add (pos 2 *ℤ x) (pos (65537 * d)))
@@ -92,13 +99,13 @@ module _ (x : ℤ) (fits : SFits w64 x) (d by : ℕ) (h : Dividend x d by) (high
   module _ (e : high * 2 ^ 64 + low ≡ (nat_abs held + 1) * by) where
     high-is : high ≡ nat_abs raised / (2 * d)
     high-is =
-        by_reciprocal (nat_abs raised) (2 * d) (omega (arith, h.divisor.some)) (omega (arith, h.divisor.few)) (omega (arith, raised-size, h.divisor.few))
+        by_reciprocal (nat_abs raised) (2 * d) (omega (arith, h.some)) (omega (arith, h.few)) (omega (arith, raised-size, h.few))
         high low (e ∙ ap₂ (λ (z : ℤ) (m : ℕ). (nat_abs z + 1) * m) held-is h.known) l
 
     pub high-small : high < 2 ^ 40
-    high-small = omega (arith, high-is, div-le_self (nat_abs raised) (2 * d), raised-size, h.divisor.few)
+    high-small = omega (arith, high-is, div-le_self (nat_abs raised) (2 * d), raised-size, h.few)
 
     pub high-nearest : to_z w64 (of_z w64 (to_z w64 high -ℤ pos 32768)) ≡ nearest x d
     high-nearest =
         let e : to_z w64 (of_z w64 (to_z w64 high -ℤ pos 32768)) ≡ pos high -ℤ pos 32768 = omega (arith, ints, high-small) in
-        e ∙ rw high-is (nearest-raised x d (nat_abs raised) h.divisor.some raised-whole)
+        e ∙ rw high-is (nearest-raised x d (nat_abs raised) h.some raised-whole)

@@ -2,25 +2,37 @@
 // For callers that have checked their inputs.
 #![tactic(auto)]
 
-ghost use Rattle.std.specs.Prelude.{◌≡◌};
+ghost use Rattle.std.specs.Prelude.{◌≡◌, ◌*◌, ◌<◌, ◌≤◌, nat_abs};
 ghost use Rattle.numbers.specs.Round.{nearest};
-ghost use Rattle.quotients.specs.Quotients.{Divisor, reciprocal, Dividend};
+ghost use Rattle.quotients.specs.Quotients.{Divisor, reciprocal};
 
-// What stands for a division by 2d: a number multiplied by it is divided in the upper 64 bits of the product.
-pub fn reciprocal(d: u64) -> u64
-    requires { Divisor d }
-    ensures { result ≡ reciprocal d }
-{
-    u64::MAX / (2 * d)
+// A count of cells d, and what stands for a division by 2d: a number multiplied by it is divided in the upper 64 bits of the product.
+#[derive(Clone, Copy)]
+pub struct Reciprocal {
+    pub of: u64,
+    by: u64,
+    pub ghost some: { 0 < of },
+    pub ghost few: { of ≤ 65025 },
+    ghost known: { by ≡ reciprocal of },
 }
 
-// (2x + d) / 2d, rounded down, with `by` the reciprocal of d. Raised by 65,536 d, which the quotient shows as 32,768, the number above
-// is not negative.
-pub fn nearest_by(x: i64, d: u64, by: u64) -> i64
-    requires { Dividend x d by }
-    ensures { result ≡ nearest x d }
-{
-    let raised = 2 * x + 65537 * (d as i64);
-    let product = wide::multiply(raised as u64 + 1, by);
-    product.high as i64 - 32768
+impl Reciprocal {
+    // That of d.
+    pub fn new(d: u64) -> Reciprocal
+        requires { Divisor d }
+        ensures { result.of ≡ d }
+    {
+        let by = u64::MAX / (2 * d);
+        Reciprocal { of: d, by }
+    }
+
+    // (2x + d) / 2d, rounded down. Raised by 65,536 d, which the quotient shows as 32,768, the number above is not negative.
+    pub fn nearest_by(self, x: i64) -> i64
+        requires { nat_abs x ≤ 32768 * self.of }
+        ensures { result ≡ nearest x self.of }
+    {
+        let raised = 2 * x + 65537 * (self.of as i64);
+        let product = wide::multiply(raised as u64 + 1, self.by);
+        product.high as i64 - 32768
+    }
 }

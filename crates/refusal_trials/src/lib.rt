@@ -10,7 +10,7 @@ use trial_tools::random::Kind;
 use trial_tools::tally::Tally;
 use trial_tools::{areas, random};
 
-// What a call is lent: two pictures, and areas with foreign contents.
+// What a call is lent: two pictures, and areas with foreign contents. Arrays, since the trials have no heap.
 #[derive(Clone, Copy)]
 struct Lent {
     f: [i16; 40],
@@ -33,7 +33,7 @@ impl Lent {
     }
 }
 
-// No refusal's number: of a row call that was refused and moved the position.
+// No refusal's number: of a row call that was refused and moved the position. No enum, since it stands where the tally is given a refusal's number.
 const MOVED: u64 = 98;
 
 // A number, since the trial prints numbers, 0 for a call that was taken.

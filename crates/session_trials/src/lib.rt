@@ -40,7 +40,8 @@ struct Asked {
     out: usize,
 }
 
-// Where a list of calls stands: its position, and both areas.
+// Where a list of calls stands: its position, and both areas. Arrays, since the trials have no heap. Whether the list began fresh is no part of it: that stays
+// as it was, and the position moves on in lists of both kinds.
 #[derive(Clone, Copy)]
 struct Stand {
     position: usize,

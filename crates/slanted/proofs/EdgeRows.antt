@@ -8,6 +8,7 @@ use native.Mathlib.Numerals.{one-add}
 use mathlib.Core.List.{List}
 use lib.Dec.{leb, ltb, leb→le, ltb→lt, le→leb, lt→ltb}
 use lib.ListN.{length, take, drop}
+use lib.Seq.{get_or-take}
 use lib.IntN.{ℤ, pos, ◌+ℤ◌, +ℤ_assoc, +ℤ_idl, +ℤ_idr}
 use borrow.Rule.Slice.PartMut.{put_mid}
 use Rattle.numbers.specs.Sum.{sum_to, pick}
@@ -32,7 +33,7 @@ module _ (columns c m₁ m₂ : ℕ) (work change behind before : List ℤ) (F :
     (room : length work ≡ columns) (room-change : length change ≡ columns)
     (wrapped : (j : ℕ) → wrap (at work j) ≡ at work j)
     (changes : (k : ℕ) → k < columns → at change k ≡ wrap (F k))
-    (e₁ : behind ≡ tabulate m₁ (λ j. wrap (at (take (columns - c) (drop c work)) j +ℤ at (take (columns - c - 0) (drop 0 change)) j)))
+    (e₁ : behind ≡ tabulate m₁ (λ j. wrap (at (take (columns - c) (drop c work)) j +ℤ at (take (columns - c) change) j)))
     (l₁ : length behind ≡ columns - c) where
   abbrev once : List ℤ
   once = put_mid c (columns - c) work behind
@@ -50,17 +51,22 @@ module _ (columns c m₁ m₂ : ℕ) (work change behind before : List ℤ) (F :
           ∙ sym (ap (λ (x : ℤ). wrap (at work j +ℤ x)) (pick_no (leb c j) (F (j - c)) (λ t. omega (arith, leb→le c j t))) ∙ ap wrap (+ℤ_idr (at work j)) ∙ wrapped j)
       go (no h) =
           let here : c + (j - c) ≡ j = omega arith in
-          let there : 0 + (j - c) ≡ j - c = omega arith in
           part-within c columns work behind (omega arith) (omega arith) l₁ j (omega arith) j<
           ∙ tabulate-at behind m₁ _ e₁ (j - c) (omega arith)
           ∙ ap₂ (λ (x y : ℤ). wrap (x +ℤ y))
           (slice_at c columns work (omega arith) (omega arith) (j - c) (omega arith) ∙ ap (at work) here)
-          (slice_at 0 (columns - c) change (omega arith) (omega arith) (j - c) (omega arith) ∙ ap (at change) there ∙ changes (j - c) (omega arith))
+          (get_or-take (columns - c) change (j - c) (pos 0) (omega arith) ∙ changes (j - c) (omega arith))
           ∙ wrap-add-right (at work j) (F (j - c))
           ∙ sym (ap (λ (x : ℤ). wrap (at work j +ℤ x)) (pick_yes (leb c j) (F (j - c)) (le→leb c j (omega arith))))
 
-  module _ (e₂ : before ≡ tabulate m₂ (λ j. wrap (at (take (columns - c - 0) (drop 0 once)) j +ℤ at (take (columns - c) (drop c change)) j)))
-      (l₂ : length before ≡ columns - c - 0) where
+  module _ (e₂ : before ≡ tabulate m₂ (λ j. wrap (at (take (columns - c) once) j +ℤ at (take (columns - c) (drop c change)) j)))
+      (l₂ : length before ≡ columns - c) where
+    none : columns - c - 0 ≡ columns - c
+    none = omega arith
+
+    span : length before ≡ columns - c - 0
+    span = l₂ ∙ sym none
+
     abbrev twice : List ℤ
     twice = put_mid 0 (columns - c - 0) once before
 
@@ -70,15 +76,15 @@ module _ (columns c m₁ m₂ : ℕ) (work change behind before : List ℤ) (F :
       where
         go : Dec (j + c < columns) → at twice j ≡ wrap (at once j +ℤ pick (ltb (j + c) columns) (F (j + c)))
         go (no h) =
-            part-after 0 (columns - c) once before (omega arith) (omega (arith, length-once)) l₂ j (omega arith)
+            part-after 0 (columns - c) once before (omega arith) (omega (arith, length-once)) span j (omega arith)
             ∙ sym (ap (λ (x : ℤ). wrap (at once j +ℤ x)) (pick_no (ltb (j + c) columns) (F (j + c)) (λ t. omega (arith, ltb→lt (j + c) columns t))) ∙ ap wrap (+ℤ_idr (at once j) ∙ once-at j j<) ∙ wrap-twice _ ∙ sym (once-at j j<))
         go (yes h) =
-            let here : 0 + (j - 0) ≡ j = omega arith in
+            let here : j - 0 ≡ j = omega arith in
             let there : c + (j - 0) ≡ j + c = omega arith in
-            part-within 0 (columns - c) once before (omega arith) (omega (arith, length-once)) l₂ j (omega arith) (omega arith)
+            part-within 0 (columns - c) once before (omega arith) (omega (arith, length-once)) span j (omega arith) (omega arith)
             ∙ tabulate-at before m₂ _ e₂ (j - 0) (omega arith)
             ∙ ap₂ (λ (x y : ℤ). wrap (x +ℤ y))
-            (slice_at 0 (columns - c) once (omega arith) (omega (arith, length-once)) (j - 0) (omega arith) ∙ ap (at once) here)
+            (get_or-take (columns - c) once (j - 0) (pos 0) (omega arith) ∙ ap (at once) here)
             (slice_at c columns change (omega arith) (omega arith) (j - 0) (omega arith) ∙ ap (at change) there ∙ changes (j + c) h)
             ∙ wrap-add-right (at once j) (F (j + c))
             ∙ sym (ap (λ (x : ℤ). wrap (at once j +ℤ x)) (pick_yes (ltb (j + c) columns) (F (j + c)) (lt→ltb (j + c) columns h)))
@@ -90,10 +96,11 @@ module _ (columns c m₁ m₂ : ℕ) (work change behind before : List ℤ) (F :
         twice-at j j< ∙ ap (λ (x : ℤ). wrap (x +ℤ b)) (once-at j j<) ∙ wrap-add (at work j +ℤ a) b
         ∙ ap wrap (+ℤ_assoc (at work j) a b ∙ ap (λ (x : ℤ). at work j +ℤ x) (sym (at-distance-some columns c j F some)))
 
-    pub edge-done : twice ≡ tabulate columns (λ j. wrap (at work j +ℤ at_distance columns F c j))
+    pub edge-done : put_mid 0 (columns - c) once before ≡ tabulate columns (λ j. wrap (at work j +ℤ at_distance columns F c j))
     edge-done =
-        is-tabulate twice columns (λ j. wrap (at work j +ℤ at_distance columns F c j))
-        (part_length 0 (columns - c) once before (omega arith) (omega (arith, length-once)) l₂ ∙ length-once) both_at
+        ap (λ (m : ℕ). put_mid 0 m once before) (sym none)
+        ∙ is-tabulate twice columns (λ j. wrap (at work j +ℤ at_distance columns F c j))
+        (part_length 0 (columns - c) once before (omega arith) (omega (arith, length-once)) span ∙ length-once) both_at
 
 -- ---- the loop over the distances from 1 on
 module _ (z : Size) (P : ℕ → ℕ → ℤ) (s : Shape) (i : ℕ) (work : List ℤ) where

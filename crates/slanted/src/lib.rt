@@ -21,11 +21,10 @@ fn edge(inputs: &CheckedInputs<'_>, i: usize, c: usize, work: &mut [i64], row: &
     ensures { work.new ≡ tabulate inputs.now.source.size.columns (λ j. wrap (get_or work.old j (pos 0) +ℤ edge_change inputs.now.source.size (plane_at (checked_source inputs.now.source)) (shape_of (given inputs.now.window)) i c j)) }
 {
     let columns = inputs.source.size.columns;
-    let zero = 0;
     let n = columns - c;
     step::gain(&inputs.source, i, reaches::depth(inputs.window, c), row);
-    step::add(&mut work[c..columns], &row[zero..n]);
-    step::add(&mut work[zero..n], &row[c..columns]);
+    step::add(&mut work[c..columns], &row[..n]);
+    step::add(&mut work[..n], &row[c..columns]);
 }
 
 // From row i to i+1.

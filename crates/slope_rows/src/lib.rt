@@ -3,21 +3,20 @@
 
 ghost use Rattle.std.specs.Prelude.{◌≡◌, ◌≤◌, map};
 ghost use Rattle.picture.specs.Plane.{plane_number};
-ghost use Rattle.picture.specs.Checked.{checked_source};
 ghost use Rattle.kept_slopes.specs.Edges.{edged, TakeAsked, LeavingAsked, LeavingDone};
 
+use kept_slopes::SlantedInputs;
 use leans::Slope;
 use padding::PlaneValue;
-use picture::CheckedSource;
+
+// The rows and the slopes are arrays apart here, and no struct: `edges::rows::rows_from` says why.
 
 // From row i to i+1, in the m'th row of a call: the flat parts and the slopes come into the work area. Where a flat part is one column, a tip,
 // the row that enters there stands in a, and the one that leaves in c.
 fn take_in<S: Slope>(
-    source: &CheckedSource<'_>,
+    slanted: &SlantedInputs<'_>,
     i: usize,
     m: usize,
-    h: usize,
-    w: usize,
     a: &[S::Value; 1536],
     c: &[S::Value; 1536],
     rises: &[S; 1536],
@@ -25,26 +24,25 @@ fn take_in<S: Slope>(
     work: &mut [i64],
     out: &mut [i64],
 )
-    requires { S.Value.holds (plane_number source.now.plane) × TakeAsked (checked_source source.now) i m h w (map S.Value.value a.now) (map S.Value.value c.now) (map S.sum rises.now) (map S.sum falls.now) work.old out.old }
-    ensures { (work.new ≡ edged (checked_source source.now) i h w work.old) × (out.new ≡ edged (checked_source source.now) i h w work.old) }
+    requires { S.Value.holds (plane_number slanted.now.inputs.source.plane) × TakeAsked slanted.now i m (map S.Value.value a.now) (map S.Value.value c.now) (map S.sum rises.now) (map S.sum falls.now) work.old out.old }
+    ensures { (work.new ≡ edged slanted.now i work.old) × (out.new ≡ edged slanted.now i work.old) }
 {
-    let k = w - h;
+    let h = slanted.height;
+    let k = slanted.width - h;
     if k == 0 {
         leans::finish_tips(a, c, rises, falls, 128 + m, 384 - m, work, out);
         return;
     }
-    flat::flat(source, i, h, k, work, out);
+    flat::flat(&slanted.inputs.source, i, h, k, work, out);
     leans::finish(rises, falls, 128 + m, 384 - m, work, out);
 }
 
 // From row i to i+1, in the m'th row of a call: the work area moves on, and so do the slopes; c has the row that leaves in the middle.
 #[tactic(auto, unfolding(picture::specs::Size::size_legal))]
 pub fn row<S: Slope>(
-    source: &CheckedSource<'_>,
+    slanted: &SlantedInputs<'_>,
     i: usize,
     m: usize,
-    h: usize,
-    w: usize,
     a: &mut [S::Value; 1536],
     b: &mut [S::Value; 1536],
     c: &mut [S::Value; 1536],
@@ -53,15 +51,17 @@ pub fn row<S: Slope>(
     work: &mut [i64],
     out: &mut [i64],
 )
-    requires { LeavingAsked S.Value.holds (checked_source source.now) i m h w (map S.Value.value a.old) (map S.Value.value b.old) (map S.Value.value c.old) (map S.sum rises.old) (map S.sum falls.old) work.old out.old }
-    ensures { LeavingDone (checked_source source.now) i m h w work.old (map S.Value.value a.new) (map S.Value.value b.new) (map S.Value.value c.new) (map S.sum rises.new) (map S.sum falls.new) work.new out.new }
+    requires { LeavingAsked S.Value.holds slanted.now i m (map S.Value.value a.old) (map S.Value.value b.old) (map S.Value.value c.old) (map S.sum rises.old) (map S.sum falls.old) work.old out.old }
+    ensures { LeavingDone slanted.now i m work.old (map S.Value.value a.new) (map S.Value.value b.new) (map S.Value.value c.new) (map S.sum rises.new) (map S.sum falls.new) work.new out.new }
 {
+    let h = slanted.height;
+    let w = slanted.width;
     let k = w - h;
-    let n = source.size.columns + w;
-    S::Value::load(source, 129 + i + h, a);
-    take_in(source, i, m, h, w, a, c, rises, falls, work, out);
-    S::Value::load(source, 129 + i, b);
-    S::Value::load(source, 129 + i - h, c);
+    let n = slanted.inputs.source.size.columns + w;
+    S::Value::load(&slanted.inputs.source, 129 + i + h, a);
+    take_in(slanted, i, m, a, c, rises, falls, work, out);
+    S::Value::load(&slanted.inputs.source, 129 + i, b);
+    S::Value::load(&slanted.inputs.source, 129 + i - h, c);
     leans::slide(
         a,
         b,

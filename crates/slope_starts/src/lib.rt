@@ -4,32 +4,33 @@
 ghost use Rattle.std.specs.Prelude.{◌≡◌, ◌≤◌, length, map};
 ghost use Rattle.numbers.specs.Grid.{tabulate};
 ghost use Rattle.picture.specs.Plane.{plane_number};
-ghost use Rattle.picture.specs.Checked.{checked_source};
 ghost use Rattle.kept_slopes.specs.Edges.{StartAsked, Started, across_slopes, AcrossAsked};
 
+use kept_slopes::SlantedInputs;
 use leans::Slope;
 use padding::PlaneValue;
-use picture::CheckedSource;
+
+// The rows and the slopes are arrays apart here, and no struct: `edges::rows::rows_from` says why.
 
 // The slopes of row i, h cells of each.
 #[tactic(auto, unfolding(picture::specs::Size::size_legal))]
 pub fn start<S: Slope>(
-    source: &CheckedSource<'_>,
+    slanted: &SlantedInputs<'_>,
     i: usize,
-    h: usize,
-    w: usize,
     a: &mut [S::Value; 1536],
     b: &mut [S::Value; 1536],
     rises: &mut [S; 1536],
     falls: &mut [S; 1536],
 )
-    requires { S.Value.holds (plane_number source.now.plane) × StartAsked (checked_source source.now) i h w (map S.Value.value a.old) (map S.Value.value b.old) (map S.sum rises.old) (map S.sum falls.old) }
-    ensures { Started (checked_source source.now) i h w (map S.Value.value a.new) (map S.Value.value b.new) (map S.sum rises.new) (map S.sum falls.new) }
+    requires { S.Value.holds (plane_number slanted.now.inputs.source.plane) × StartAsked slanted.now i (map S.Value.value a.old) (map S.Value.value b.old) (map S.sum rises.old) (map S.sum falls.old) }
+    ensures { Started slanted.now i (map S.Value.value a.new) (map S.Value.value b.new) (map S.sum rises.new) (map S.sum falls.new) }
 {
-    let n = source.size.columns + w;
+    let h = slanted.height;
+    let w = slanted.width;
+    let n = slanted.inputs.source.size.columns + w;
     for t in 0..h {
-        S::Value::load(source, 129 + i + t, a);
-        S::Value::load(source, 128 + i - t, b);
+        S::Value::load(&slanted.inputs.source, 129 + i + t, a);
+        S::Value::load(&slanted.inputs.source, 128 + i - t, b);
         leans::gather(a, b, n, 128, 256 + w - t, 256 + t - w, rises);
         leans::gather(a, b, n, 384 - w, 256 + t - 2 * w, 256 - t, falls);
     }

@@ -42,24 +42,31 @@ fn is_steady(given: Given, cell: Cell) -> bool {
     moments::central(n, a, s, s) == 0
 }
 
-// "the first cell in row order whose voice answer is Steady": its place, or the number of cells.
-fn first_steady(given: Given) -> usize {
+// "the first cell in row order whose voice answer is Steady", and none where no cell is.
+fn first_steady(given: Given) -> Option<Cell> {
     let c = given.case;
     (0..c.cells())
         .find(|k| is_steady(given, c.cell(*k)))
-        .unwrap_or(c.cells())
+        .map(|k| c.cell(k))
 }
 
-// The same of the library; no place at all where it refuses.
+// What a search found, by its place, and by the number of cells where there is none: a tally compares numbers.
+fn place(c: Case, found: Option<Cell>) -> usize {
+    match found {
+        Some(cell) => c.place(cell.row, cell.column),
+        None => c.cells(),
+    }
+}
+
+// The library's search beside the rival's; no place at all where it refuses.
 fn steady(given: Given, t: Tally) -> Tally {
     let c = given.case;
     let answer = smoothing::steady(c.size(), given.f, given.g, c.window(), c.shift);
-    let place = match answer {
-        Ok(Some(cell)) => c.place(cell.row, cell.column),
-        Ok(None) => c.cells(),
+    let ours = match answer {
+        Ok(found) => place(c, found),
         Err(_) => 4294967296,
     };
-    t.with(place, first_steady(given))
+    t.with(ours, place(c, first_steady(given)))
 }
 
 // The two tallies of this group.
@@ -69,7 +76,8 @@ struct Tallies {
     steady: Tally,
 }
 
-// One case: its pictures made; one picture alone is smoothed.
+// One case: its pictures made; one picture alone is smoothed. A group has `of_case` and `of_cases` of its own, as it has its own tallies: one for all would
+// take both by a type parameter and a closure, for these few lines.
 fn of_case(case: Case, t: Tallies) -> Tallies {
     let pictures = case.pictures();
     let given = Given::new(case, &pictures);

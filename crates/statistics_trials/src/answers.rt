@@ -2,7 +2,8 @@
 use picture::Refusal;
 use statistics::{Coefficient, Voice};
 
-// What is given, by its kind: 1 Empty, and then the others in the order in which document 01 names them.
+// What is given, by its kind: 1 Empty, and then the others in the order in which document 01 names them. A number and no enum, since a tally compares
+// numbers and its checksum takes them, and the three types have other kinds each.
 pub trait Kinds: Drop {
     fn kind(&self) -> u64;
 }

@@ -98,7 +98,7 @@ fn of_sums(z: Sums, t: Tally) -> Tally {
     coefficient(z, voice(z, whole_numbers(z, t)))
 }
 
-// One case: its pictures made, and the statistics at so many cells.
+// One case: its pictures made, and the statistics at so many cells. A group has `of_case` and `of_cases` of its own, as it has its own tallies.
 fn of_case(case: Case, cells: usize, tally: Tally) -> Tally {
     let pictures = case.pictures();
     let given = Given::new(case, &pictures);

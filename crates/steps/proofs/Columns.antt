@@ -41,11 +41,10 @@ module _ (P : ℕ → ℕ → ℤ) (columns : ℕ) where
           ∙ wrap-add (sum_to m (λ k. P k j)) (P m j)
           ∙ ap wrap (sym (sum-suc m (λ k. P k j)) ∙ ap (λ (q : ℕ). sum_to q (λ k. P k j)) (sym (add-one m)))
 
-  pub columns-more : (m past : ℕ) (work next : List ℤ) → ((j : ℕ) → P past j ≡ pos 0) → work ≡ columns_to P columns m →
-      next ≡ tabulate columns (λ j. wrap (at work j +ℤ (P m j -ℤ P past j))) → next ≡ columns_to P columns (m + 1)
-  columns-more m past work next none w o =
+  pub columns-more : (m : ℕ) (work next : List ℤ) → work ≡ columns_to P columns m → next ≡ tabulate columns (λ j. wrap (at work j +ℤ (P m j -ℤ pos 0))) → next ≡ columns_to P columns (m + 1)
+  columns-more m work next w o =
       columns-plus m work next w
-      (o ∙ tabulate-cong columns (λ j. wrap (at work j +ℤ (P m j -ℤ P past j))) (λ j. wrap (at work j +ℤ P m j)) (λ j j<. ap (λ (x : ℤ). wrap (at work j +ℤ x)) (ap (λ (y : ℤ). P m j -ℤ y) (none j) ∙ +ℤ_idr (P m j))))
+      (o ∙ tabulate-cong columns (λ j. wrap (at work j +ℤ (P m j -ℤ pos 0))) (λ j. wrap (at work j +ℤ P m j)) (λ j j<. ap (λ (x : ℤ). wrap (at work j +ℤ x)) (+ℤ_idr (P m j))))
 
 -- the rows at most r from row 0
 from_0 : (n r : ℕ) (f : ℕ → ℤ) → sum_to n (λ k. pick (leb (dist 0 k) r) (f k)) ≡ sum_to (min (suc (0 + r)) n) f

@@ -20,18 +20,18 @@ module _ (z : Size) (P : ℕ → ℕ → ℤ) (past : (m n : ℕ) → z.rows ≤
         let e : i + 1 + d ≡ suc i + d = omega arith in
         ap (λ (m : ℕ). P m j) e ∙ sym (cell_below_lem z P past (suc i) d j)
 
-    gained : (leave : ℕ) → ((j : ℕ) → P leave j ≡ cell_above z P i d j) → out ≡ tabulate z.columns (λ j. wrap (at sums j +ℤ (P (i + 1 + d) j -ℤ P leave j))) → out ≡ tabulate z.columns (λ j. wrap (at sums j +ℤ enter_leave z P i d j))
+    gained : (leaving : ℕ → ℤ) → ((j : ℕ) → leaving j ≡ cell_above z P i d j) → out ≡ tabulate z.columns (λ j. wrap (at sums j +ℤ (P (i + 1 + d) j -ℤ leaving j))) → out ≡ tabulate z.columns (λ j. wrap (at sums j +ℤ enter_leave z P i d j))
     unfolding enter_leave
-    gained leave above o =
-        o ∙ tabulate-cong z.columns (λ j. wrap (at sums j +ℤ (P (i + 1 + d) j -ℤ P leave j))) (λ j. wrap (at sums j +ℤ (cell_below z P (suc i) d j -ℤ cell_above z P i d j)))
+    gained leaving above o =
+        o ∙ tabulate-cong z.columns (λ j. wrap (at sums j +ℤ (P (i + 1 + d) j -ℤ leaving j))) (λ j. wrap (at sums j +ℤ (cell_below z P (suc i) d j -ℤ cell_above z P i d j)))
         (λ j j<. ap (λ (x : ℤ). wrap (at sums j +ℤ x)) (ap₂ (λ (x y : ℤ). x -ℤ y) (below j) (above j)))
 
     -- the row d rows above row i leaves; there is none where i is below d
     pub gain-both : d ≤ i → out ≡ tabulate z.columns (λ j. wrap (at sums j +ℤ (P (i + 1 + d) j -ℤ P (i - d) j))) → out ≡ tabulate z.columns (λ j. wrap (at sums j +ℤ enter_leave z P i d j))
-    gain-both h = gained (i - d) (λ j. sym (cell-above z P past i d j h))
+    gain-both h = gained (P (i - d)) (λ j. sym (cell-above z P past i d j h))
 
-    pub gain-enter : i < d → out ≡ tabulate z.columns (λ j. wrap (at sums j +ℤ (P (i + 1 + d) j -ℤ P z.rows j))) → out ≡ tabulate z.columns (λ j. wrap (at sums j +ℤ enter_leave z P i d j))
-    gain-enter h = gained z.rows (λ j. past z.rows j (omega arith) ∙ sym (none_above z P i d j h))
+    pub gain-enter : i < d → out ≡ tabulate z.columns (λ j. wrap (at sums j +ℤ (P (i + 1 + d) j -ℤ pos 0))) → out ≡ tabulate z.columns (λ j. wrap (at sums j +ℤ enter_leave z P i d j))
+    gain-enter h = gained (λ j. pos 0) (λ j. sym (none_above z P i d j h))
 
 -- added to zeros it stands alone
 pub gain-alone : (columns n : ℕ) (F : ℕ → ℤ) (zeros out : List ℤ) → n ≡ columns → zeros ≡ tabulate n (λ k. pos 0) → out ≡ tabulate columns (λ j. wrap (at zeros j +ℤ F j)) → out ≡ tabulate columns (λ j. wrap (F j))

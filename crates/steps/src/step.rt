@@ -15,14 +15,13 @@ pub fn add_gain(source: &CheckedSource<'_>, i: usize, d: usize, sums: &mut [i64]
     requires { RowAsked source.now.size i d sums.old }
     ensures { sums.new ≡ tabulate source.now.size.columns (λ j. wrap (get_or sums.old j (pos 0) +ℤ enter_leave source.now.size (plane_at (checked_source source.now)) i d j)) }
 {
-    let rows = source.size.rows;
     let enter = i + 1 + d;
     if i < d {
-        change::exchange(source, enter, rows, sums);
+        change::exchange(source, enter, None, sums);
         return;
     }
     let leave = i - d;
-    change::exchange(source, enter, leave, sums);
+    change::exchange(source, enter, Some(leave), sums);
 }
 
 // The same alone: in `row` the cells that enter less those that leave.

@@ -19,7 +19,7 @@ fn at_cell(given: Given, k: usize, t: Tally) -> Tally {
         .with(answer.unwrap_or(0), given.sum(cell.row, cell.column))
 }
 
-// One case: its pictures made, and the sums at so many of its cells compared.
+// One case: its pictures made, and the sums at so many of its cells compared. A group has `of_case` and `of_cases` of its own, as it has its own tallies.
 fn of_case(trial: Trial, tally: Tally) -> Tally {
     let pictures = trial.case.pictures();
     let given = Given::new(trial.case, &pictures);

@@ -37,7 +37,8 @@ fn at_cell(given: Given, built: Table, foreign: Table, k: usize, t: Tallies) -> 
     }
 }
 
-// One case: its pictures made, their table built in an area with foreign contents, and compared at so many cells.
+// One case: its pictures made, their table built in an area with foreign contents, and compared at so many cells. The areas are arrays, since the trials
+// have no heap. A group has `of_case` and `of_cases` of its own, as it has its own tallies.
 fn of_case(trial: Trial, tallies: Tallies) -> Tallies {
     let case = trial.case;
     let pictures = case.pictures();

@@ -1,4 +1,4 @@
-// Answers as numbers: that of a refusal, and 0 where there is none.
+// Answers as numbers: that of a refusal, and 0 where there is none. Numbers and no Option, since a tally compares numbers and its checksum takes them.
 use picture::Refusal;
 
 // The number by which a call was refused, 0 where it was taken.

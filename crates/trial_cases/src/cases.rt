@@ -2,7 +2,7 @@
 use picture::{Cell, Shift, Size, Window};
 use trial_tools::random;
 
-// The shape of a window, and a number that is none's.
+// The shape of a window, and a number that is none's. Not `picture::Shape`, which has no such number, and whose own numbers are tried.
 #[derive(Clone, Copy, Debug, PartialEq, Eq)]
 pub enum Shape {
     Rectangle,
@@ -23,7 +23,8 @@ impl From<Shape> for u32 {
     }
 }
 
-// "plane 0, one; 1, f(m, n); 2, g(m+u, n+v); 3 and 4, the squares of those two; 5, their product"
+// "plane 0, one; 1, f(m, n); 2, g(m+u, n+v); 3 and 4, the squares of those two; 5, their product". Not `picture::Plane`: the rival shares no enum with what it
+// tries, so that an error there is none here too.
 #[derive(Clone, Copy, Debug, PartialEq, Eq)]
 pub enum Plane {
     One,
@@ -132,7 +133,7 @@ impl Case {
     }
 }
 
-// The two pictures of a case: as many levels of each area as there are cells.
+// The two pictures of a case: as many levels of each area as there are cells. Arrays with a length beside them, since the trials have no heap.
 #[derive(Clone, Copy)]
 pub struct Pictures {
     f: [i16; 32768],

@@ -8,7 +8,7 @@ pub struct Call {
     pub g: usize,
     pub window: Window,
     pub shift: Shift,
-    pub plane: u32,
+    pub plane: u32, // a number, since a fault is one that is no plane's
     pub cell: Cell,
     pub position: usize,
     pub request: usize,

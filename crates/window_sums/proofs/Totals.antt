@@ -4,13 +4,12 @@ use mathlib.Core.Path.{◌≡◌, sym, ap, ap₂, ◌∙◌}
 use Prim.Native.Nat.{ℕ, suc, ◌+◌, ◌-◌, ◌^◌, ◌≤◌, ◌<◌, min}
 use native.Mathlib.Nat.{le-add_right, mul-le-mul}
 use native.Mathlib.Omega.{arith}
-use mathlib.Core.List.{List}
 use lib.ListN.{length}
 use lib.Dec.{leb}
 use lib.IntN.{ℤ, pos, ◌+ℤ◌, ◌-ℤ◌, +ℤ_idr}
 use mir.Syntax.{w64}
 use mir.Val.{SFits}
-use Rattle.std.specs.Prelude.{None, Some}
+use Rattle.std.specs.Prelude.{Option, None, Some, IfSome}
 use Rattle.numbers.specs.Sum.{sum_to, pick}
 use Rattle.numbers.specs.Wrap.{wrap}
 use Rattle.numbers.proofs.Sums.{sum-cong, sum-none, sum-split, sum-range, near-range}
@@ -24,28 +23,38 @@ use Rattle.picture.proofs.Found.{Checked}
 use Rattle.picture.proofs.Refusals.{in-limits}
 use Rattle.picture.proofs.Windows.{by_rows, window-bound}
 use Rattle.picture.proofs.Planes.{plane-bound}
-use Rattle.overlaps.specs.declared.Overlap.{Overlap}
-use Rattle.overlaps.specs.Overlaps.{Overlapping, Clipped}
-use Rattle.lines.specs.declared.Line.{Line}
-use Rattle.lines.specs.Lines.{line_of, line_value, Lies}
-use Rattle.lines.proofs.LineValues.{clipped-outside, clipped-value}
-use Rattle.lines.proofs.Exchanges.{line-off, lent-f, lent-g, lent-value, lent-lengths}
+use Rattle.overlaps.specs.declared.overlap.Overlap.{Overlap}
+use Rattle.overlaps.specs.Overlaps.{Clipped}
+use Rattle.lines.specs.declared.Counting.{Counting}
+use Rattle.lines.specs.declared.line.Line.{Line}
+use Rattle.lines.specs.Lines.{counting, CountingOf, HasCells, line_value, row_value}
+use Rattle.lines.proofs.LineValues.{line-off, line-on, clipped-outside, clipped-value}
+use Rattle.window_sums.specs.Summing.{FewCells, line_sum}
 
 -- ---- the cells of a line, added to a sum s
-module _ (p : ℕ) (f g : List ℤ) (n : ℕ) (s : ℤ) where
-  pub line-none-added : SFits w64 s → s ≡ wrap (s +ℤ sum_to n (line_value p f g None))
-  line-none-added h =
-      sym (ap (λ (z : ℤ). wrap (s +ℤ z)) (sum-none n (line_value p f g None) (λ k k<. line-off p f g k)) ∙ ap wrap (+ℤ_idr s) ∙ wrap-fits s h)
+pub line-none-added : (p : ℕ) (s : ℤ) → SFits w64 s → s ≡ wrap (s +ℤ line_sum p None)
+unfolding line_sum
+line-none-added p s h = sym (ap wrap (+ℤ_idr s) ∙ wrap-fits s h)
 
-  -- t is what was summed of the levels as they were lent
-  pub line-added : (l : Line) (i : Lies f g n l) (t r : ℤ) →
-      t ≡ wrap (sum_to (length (lent-f f g n l i)) (λ k. plane_value p (at (lent-f f g n l i) k) (at (lent-g f g n l i) k))) → r ≡ wrap (s +ℤ t) → r ≡ wrap (s +ℤ sum_to n (line_value p f g (Some l)))
-  line-added l i t r et er =
-      let lent : ℕ → ℤ = λ k. plane_value p (at (lent-f f g n l i) k) (at (lent-g f g n l i) k) in
-      er
-      ∙ ap (λ (z : ℤ). wrap (s +ℤ z)) (et ∙ ap (λ (k : ℕ). wrap (sum_to k lent)) (lent-lengths f g n l i).0)
-      ∙ wrap-add-right s (sum_to n lent)
-      ∙ ap (λ (z : ℤ). wrap (s +ℤ z)) (sum-cong n lent (line_value p f g (Some l)) (λ k k<. lent-value f g n l i p k k<))
+-- t is what was summed
+pub line-added : (p : ℕ) (s : ℤ) (l : Line) (t r : ℤ) → t ≡ wrap (sum_to (length l.f.now) (λ k. plane_value p (at l.f.now k) (at l.g.now k))) → r ≡ wrap (s +ℤ t) → r ≡ wrap (s +ℤ line_sum p (Some l))
+unfolding line_sum
+line-added p s l t r et er =
+    er
+    ∙ ap (λ (z : ℤ). wrap (s +ℤ z)) et
+    ∙ wrap-add-right s (sum_to (length l.f.now) (λ k. plane_value p (at l.f.now k) (at l.g.now k)))
+
+-- the sum of n cells by their values
+line-total : (p n : ℕ) (l : Option Line) → IfSome l (HasCells n) → line_sum p l ≡ sum_to n (line_value p l)
+unfolding line_sum
+line-total p n None e = sym (sum-none n (line_value p None) (λ k k<. line-off p k))
+line-total p n (Some l) e =
+    ap (λ (m : ℕ). sum_to m (λ k. plane_value p (at l.f.now k) (at l.g.now k))) e
+    ∙ sum-cong n (λ k. plane_value p (at l.f.now k) (at l.g.now k)) (line_value p (Some l)) (λ k k<. line-on p l k)
+
+pub few-cells : (n : ℕ) (l : Option Line) → n ≤ 1024 → IfSome l (HasCells n) → IfSome l FewCells
+few-cells n None h e = e
+few-cells n (Some l) h e = omega (arith, e)
 
 -- ---- values from lo up to hi that are 0 before a and from b on
 module _ (f : ℕ → ℤ) where
@@ -70,14 +79,13 @@ window_row x i j m =
     let z = x.source.size in
     sum_to z.columns (λ n. pick (leb (column_gap z j n) (reach (shape_of x.window) (row_gap z i m))) (plane_at x.source m n))
 
-module _ (x : Inputs) (i j m : ℕ) (o along r : Overlap) (v : Overlapping x.source.size.rows x.source.shift.down o) (h : Overlapping x.source.size.columns x.source.shift.right along) where
-  pub row-total :
+module _ (x : Inputs) (i j m : ℕ) (q : Counting) (w : CountingOf x.source q) (r : Overlap) where
+  pub row-total : (l : Option Line) → IfSome l (HasCells (r.end - r.first)) → ((k : ℕ) → k < r.end - r.first → line_value x.source.plane l k ≡ row_value x.source.plane x.source (counting q.rows r) m k) →
       let columns = x.source.size.columns in
       let far = reach (shape_of x.window) (row_gap x.source.size i m) in
-      j < columns → Clipped along (j - far) (min (suc (j + far)) columns) r →
-      sum_to (r.end - r.first) (line_value x.source.plane x.source.f x.source.g (line_of x.source.size o r m)) ≡ window_row x i j m
+      j < columns → Clipped q.columns (j - far) (min (suc (j + far)) columns) r → line_sum x.source.plane l ≡ window_row x i j m
   unfolding window_row
-  row-total j< c =
+  row-total l cells found j< c =
       let columns = x.source.size.columns in
       let far = reach (shape_of x.window) (row_gap x.source.size i m) in
       let lo = j - far in
@@ -85,8 +93,9 @@ module _ (x : Inputs) (i j m : ℕ) (o along r : Overlap) (v : Overlapping x.sou
       let P = plane_at x.source m in
       let left : min lo columns ≡ lo = omega arith in
       let within : hi ≤ columns = omega arith in
-      sum-cong (r.end - r.first) (line_value x.source.plane x.source.f x.source.g (line_of x.source.size o r m)) (λ k. P (r.first + k)) (clipped-value x.source o along v h m lo hi r c within)
-      ∙ sym (sum-within P lo r.first r.end hi c.from c.ordered c.upto (clipped-outside x.source o along v h m lo hi r c within))
+      line-total x.source.plane (r.end - r.first) l cells
+      ∙ sum-cong (r.end - r.first) (line_value x.source.plane l) (λ k. P (r.first + k)) (λ k k<. found k k< ∙ clipped-value x.source q w m lo hi r c within k k<)
+      ∙ sym (sum-within P lo r.first r.end hi c.from r.ordered c.upto (clipped-outside x.source q w m lo hi r c within))
       ∙ sym (near-range columns j far P ∙ ap (λ (k : ℕ). sum_to (hi - k) (λ q. P (k + q))) left)
 
 -- ---- the window row by row, from its first row on

@@ -1,15 +1,16 @@
 -- What the functions of the direct sum ask, and the columns of a window's row.
 -- Assumes nothing.
-use Rattle.std.specs.Prelude.{ℕ, suc, ◌+◌, ◌-◌, ◌≤◌, ◌<◌, min, List, ℤ, Option, IfSome}
-use Rattle.numbers.specs.Sum.{dist}
+use Rattle.std.specs.Prelude.{ℕ, suc, ◌+◌, ◌-◌, ◌≤◌, ◌<◌, min, length, get_or, ℤ, pos, Option, None, Some}
+use Rattle.numbers.specs.Sum.{dist, sum_to}
 use Rattle.picture.specs.declared.Cell.{Cell}
 use Rattle.picture.specs.declared.Size.{Size}
 use Rattle.picture.specs.declared.Window.{Window}
 use Rattle.picture.specs.Window.{shape_of, reach}
-use Rattle.overlaps.specs.declared.Overlap.{Overlap}
+use Rattle.picture.specs.Picture.{plane_value}
+use Rattle.overlaps.specs.declared.overlap.Overlap.{Overlap}
 use Rattle.overlaps.specs.Overlaps.{Clipped}
-use Rattle.lines.specs.declared.Line.{Line}
-use Rattle.lines.specs.Lines.{Span, Lies}
+use Rattle.lines.specs.declared.line.Line.{Line}
+use Rattle.lines.specs.Lines.{Span}
 
 -- a cell of the picture
 pub record SumAsked (z : Size) (c : Cell) : Type 0 where
@@ -27,7 +28,11 @@ RowColumns columns w c along m r =
     let far = reach (shape_of w) (dist c.row m) in
     Clipped along (c.column - far) (min (suc (c.column + far)) columns) r
 
--- a line of at most 1,024 cells within both pictures, if there is one
-pub record LineSumAsked (f g : List ℤ) (l : Option Line) (n : ℕ) : Type 0 where
-  pub few : n ≤ 1024
-  pub lies : IfSome l (Lies f g n)
+-- a line of at most 1,024 cells
+abbrev pub FewCells : Line → Type 0
+FewCells l = length l.f.now ≤ 1024
+
+-- the sum of plane p over the cells of a line; 0 where there is no line
+unfoldable pub line_sum : ℕ → Option Line → ℤ
+line_sum p None = pos 0
+line_sum p (Some l) = sum_to (length l.f.now) (λ k. plane_value p (get_or l.f.now k (pos 0)) (get_or l.g.now k (pos 0)))

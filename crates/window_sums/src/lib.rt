@@ -2,16 +2,14 @@
 // For callers that have checked their inputs.
 #![tactic(auto)]
 
-ghost use Rattle.std.specs.Prelude.{◌≡◌, ◌+ℤ◌};
-ghost use Rattle.numbers.specs.Sum.{sum_to};
+ghost use Rattle.std.specs.Prelude.{◌≡◌, ◌+ℤ◌, IfSome};
 ghost use Rattle.numbers.specs.Wrap.{wrap};
 ghost use Rattle.picture.specs.Plane.{plane_number};
 ghost use Rattle.picture.specs.Checked.{given, checked_inputs};
 ghost use Rattle.picture.specs.Direct.{direct_sum};
-ghost use Rattle.lines.specs.Lines.{line_value};
-ghost use Rattle.window_sums.specs.Summing.{SumAsked, ColumnsAsked, RowColumns, LineSumAsked};
+ghost use Rattle.window_sums.specs.Summing.{SumAsked, ColumnsAsked, RowColumns, FewCells, line_sum};
 
-use lines::Line;
+use lines::{Counting, Line, counting_of, line_of};
 use overlaps::Overlap;
 use picture::{Cell, CheckedInputs, CheckedWindow, Plane};
 
@@ -33,15 +31,15 @@ fn columns_of(
     overlaps::clipped(along, left, clip::high(column, reach, columns))
 }
 
-// A sum, with the n cells of a line added, if there is one.
-fn add_line(plane: Plane, f: &[i16], g: &[i16], line: Option<Line>, n: usize, sum: i64) -> i64
-    requires { LineSumAsked f.now g.now line n }
-    ensures { result ≡ wrap (sum +ℤ sum_to n (line_value (plane_number plane) f.now g.now line)) }
+// A sum, with the cells of a line added, if there is one.
+fn add_line(plane: Plane, line: Option<Line<'_>>, sum: i64) -> i64
+    requires { IfSome line FewCells }
+    ensures { result ≡ wrap (sum +ℤ line_sum (plane_number plane) line.entry) }
 {
     let Some(line) = line else {
         return sum;
     };
-    let total = row_totals::total(plane, &f[line.f..line.f + n], &g[line.g..line.g + n]);
+    let total = row_totals::total(plane, line.f, line.g);
     wrapping::wrapping_add(sum, total)
 }
 
@@ -55,22 +53,16 @@ pub fn sum(inputs: &CheckedInputs<'_>, cell: Cell) -> i64
     let rows = source.size.rows;
     let columns = source.size.columns;
     let row = cell.row;
-    let counting = overlaps::overlap_of(rows, source.shift.down);
-    let along = overlaps::overlap_of(columns, source.shift.right);
+    let counting = counting_of(source);
     let height = shape::height(inputs.window);
     let bottom = clip::high(row, height, rows);
     let mut s = 0i64;
     for m in clip::low(row, height)..bottom {
-        let part = columns_of(columns, inputs.window, cell, along, m);
-        let line = lines::line_of(source, counting, part, m);
-        s = add_line(
-            source.plane,
-            source.f,
-            source.g,
-            line,
-            part.end - part.first,
-            s,
-        );
+        let part = Counting {
+            rows: counting.rows,
+            columns: columns_of(columns, inputs.window, cell, counting.columns, m),
+        };
+        s = add_line(source.plane, line_of(source, part, m), s);
     }
     s
 }

@@ -1,6 +1,6 @@
 -- `advance::one_by_one` meets its contract. Assumes nothing.
 use mathlib.Core.Path.{◌≡◌, refl, sym, ap, ◌∙◌}
-use Prim.Native.Nat.{ℕ, ◌+◌, ◌-◌, ◌≤◌}
+use Prim.Native.Nat.{ℕ, ◌+◌, ◌-◌, ◌*◌, ◌≤◌}
 use native.Mathlib.Omega.{arith}
 use lib.IntN.{ℤ}
 use lib.ListN.{length}
@@ -17,25 +17,23 @@ use Rattle.advance.proofs.one_by_one.Goals as goal
 pub loop-k-init : goal.loop-k-init
 loop-k-init c =
     let plane : ℕ → ℕ → ℤ = plane_at (checked_source c.args.inputs.now.source) in
-    (omega arith, omega arith, refl, c.requires.room_work, partly_none c.args.inputs.now.source.size plane (shape_of (given c.args.inputs.now.window)) c.args.position c.args.work.now c.args.out.now)
+    (omega arith, refl, c.requires.room_work, partly_none c.args.inputs.now.source.size plane (shape_of (given c.args.inputs.now.window)) c.args.position c.args.work.now c.args.out.now)
 
 pub loop-k-preserved : goal.loop-k-preserved
 loop-k-preserved c =
     let plane : ℕ → ℕ → ℤ = plane_at (checked_source c.args.inputs.now.source) in
-    let ends : c.loop-k.start + c.args.inputs.now.source.size.columns ≤ length c.loop-k.out =
-    let l = c.loop-k in
-    omega (arith, l.invariant.1, l.invariant.2, c.requires.room, line-end l.k c.args.n c.args.inputs.now.source.size.columns c.loop-k-test.true) in
     let l = c.loop-k in
     let z = c.args.inputs.now.source.size in
+    let start = l.k * z.columns in
+    let ends : start + z.columns ≤ length l.out = omega (arith, l.invariant.1, c.requires.room, line-end l.k c.args.n z.columns c.loop-k-test.true) in
     let call = c.next in
-    let span : l.start + z.columns - l.start ≡ z.columns = omega arith in
-    let written : length call.new.out ≡ z.columns = call.auto.out ∙ slice-length l.start (l.start + z.columns) l.out (omega arith) ends ∙ span in (
+    let span : start + z.columns - start ≡ z.columns = omega arith in
+    let written : length call.new.out ≡ z.columns = call.auto.out ∙ slice-length start (start + z.columns) l.out (omega arith) ends ∙ span in (
       omega (arith, c.loop-k-test.true),
-      omega (arith, l.invariant.1),
-      c.out-1.given.1 ∙ l.invariant.2,
-      call.auto.work ∙ l.invariant.3,
-      partly_more z plane (shape_of (given c.args.inputs.now.window)) c.args.position c.args.work.now l.k l.start l.work l.out _ call.new.out
-          l.invariant.4 l.invariant.1 ends call.ensures.work (call.ensures.out ∙ ap (output_row z (shape_of (given c.args.inputs.now.window))) (sym call.ensures.work)) written,
+      c.out-1.given.1 ∙ l.invariant.1,
+      call.auto.work ∙ l.invariant.2,
+      partly_more z plane (shape_of (given c.args.inputs.now.window)) c.args.position c.args.work.now l.k start l.work l.out _ call.new.out
+          l.invariant.3 refl ends call.ensures.work (call.ensures.out ∙ ap (output_row z (shape_of (given c.args.inputs.now.window))) (sym call.ensures.work)) written,
     )
 
 pub overflow_add-position : goal.overflow_add-position

@@ -1,6 +1,6 @@
 -- What the loops of `advance::one_by_one` keep. Assumes nothing.
 use mathlib.Core.Path.{◌≡◌}
-use Prim.Native.Nat.{◌*◌, ◌≤◌}
+use Prim.Native.Nat.{◌≤◌}
 use lib.ListN.{length}
 use Rattle.picture.specs.Window.{shape_of}
 use Rattle.picture.specs.Picture.{plane_at}
@@ -9,4 +9,4 @@ use Rattle.session.proofs.Strips.{Partly}
 use Rattle.advance.proofs.one_by_one.Given as goal
 
 abbrev pub invariant-loop-k : goal.invariant-loop-k
-invariant-loop-k l = (l.k ≤ l.n) × (l.start ≡ l.k * l.inputs.source.size.columns) × (length l.out ≡ length l.initial.out) × (length l.work ≡ l.inputs.source.size.columns) × Partly l.inputs.source.size (plane_at (checked_source l.inputs.source)) (shape_of (given l.inputs.window)) l.position l.initial.work l.k l.work l.out
+invariant-loop-k l = (l.k ≤ l.n) × (length l.out ≡ length l.initial.out) × (length l.work ≡ l.inputs.source.size.columns) × Partly l.inputs.source.size (plane_at (checked_source l.inputs.source)) (shape_of (given l.inputs.window)) l.position l.initial.work l.k l.work l.out

@@ -3,10 +3,10 @@ use mathlib.Core.Path.{◌≡◌, ◌∙◌}
 use Prim.Native.Nat.{◌-◌, ◌*◌, ◌%◌, ◌≤◌}
 use native.Mathlib.Omega.{arith}
 use native.Mathlib.Nat.{mul-le-mul_right}
-use lib.ListN.{length, take, drop}
+use lib.ListN.{length, take}
+use lib.Seq.{length-take-le}
 use Rattle.picture.proofs.Found.{checked}
-use Rattle.numbers.proofs.Writes.{slice-length}
-use Rattle.picture.specs.Picture.{Inputs, inputs}
+use Rattle.picture.specs.Picture.{Inputs}
 use Rattle.picture.specs.Checked.{checked_inputs}
 use Rattle.blocks.specs.Blocks.{rows_in}
 use Rattle.blocks.proofs.RowSums.{block_made, row_first}
@@ -17,7 +17,7 @@ returns c =
     let given : Inputs = checked_inputs c.args.inputs.now in
     let rows_of : c.high.result - c.args.i ≡ rows_in given c.args.i = rw c.high.ensures in
     let few : (c.high.result - c.args.i) * c.args.inputs.now.source.size.columns ≤ 16 * c.args.inputs.now.source.size.columns = mul-le-mul_right c.args.inputs.now.source.size.columns (omega (arith, c.high.ensures)) in
-    let lent : length (take ((c.high.result - c.args.i) * c.args.inputs.now.source.size.columns - 0) (drop 0 c.args.block.now)) ≡ (c.high.result - c.args.i) * c.args.inputs.now.source.size.columns = slice-length 0 ((c.high.result - c.args.i) * c.args.inputs.now.source.size.columns) c.args.block.now (omega arith) (omega (arith, few, c.requires.room)) ∙ omega arith in
+    let lent : length (take ((c.high.result - c.args.i) * c.args.inputs.now.source.size.columns) c.args.block.now) ≡ (c.high.result - c.args.i) * c.args.inputs.now.source.size.columns = length-take-le ((c.high.result - c.args.i) * c.args.inputs.now.source.size.columns) c.args.block.now (omega (arith, few, c.requires.room)) in
     let m = c.many in
     let i = c.args.i in
     let start : i % 16 ≡ 0 = omega (arith, c.if-i-ne0.false) in

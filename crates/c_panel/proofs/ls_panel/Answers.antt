@@ -28,9 +28,9 @@ module _ (text out : List ℕ) where
   unfolding panel_reply
   room-reply h = rw (panel_reply, le-ltb (length out) 28672 h)
 
-pub returns-then-out-lt28672 : goal.returns-then-out-lt28672
-returns-then-out-lt28672 c =
-    let h = c.if-out-lt28672.true in
+pub returns-then-out-lt-ROOM : goal.returns-then-out-lt-ROOM
+returns-then-out-lt-ROOM c =
+    let h = c.if-out-lt-ROOM.true in
     let r = without-value c.args.written.now _ _ (short-reply _ _ h) in
     record {
       status = to_z-of_z {w = w32} (record { sfits = c.refused.type_inv }) ∙ c.refused.ensures ∙ r.0;
@@ -41,5 +41,5 @@ returns-then-out-lt28672 c =
 pub returns : goal.returns
 returns c =
     let e = c.render.ensures in
-    let r = with_value_lem c.args.written.now _ _ (room-reply _ _ c.if-out-lt28672.false) in
+    let r = with_value_lem c.args.written.now _ _ (room-reply _ _ c.if-out-lt-ROOM.false) in
     record { status = r.0; area = e.area; written = e.count ∙ r.1 }

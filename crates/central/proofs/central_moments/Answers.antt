@@ -3,7 +3,7 @@ use borrow.Author.Rules.{rules}
 use native.Mathlib.Omega.{arith}
 use mir.Facts.{to_z-of_z}
 use Rattle.statistics.proofs.Fits.{Fit}
-use Rattle.central.proofs.Deciding.{Held, refused-unbounded, refused-f, refused-g, refused-c, empty, given, factors-f, factors-g, factors-c}
+use Rattle.central.proofs.Deciding.{Held, negative, refused-unbounded, refused-f, refused-g, refused-c, empty, given, factors-f, factors-g, factors-c}
 use Rattle.central.proofs.central_moments.Goals as goal
 
 pub returns-then-unbounded : goal.returns-then-unbounded
@@ -18,14 +18,16 @@ covariance-g-requires c = let fit : Fit c.args.z = search rules in grind (arith,
 pub covariance-c-requires : goal.covariance-c-requires
 covariance-c-requires c = let fit : Fit c.args.z = search rules in grind (arith, to_z-of_z, factors-c)
 
-pub returns-then-f-lt0 : goal.returns-then-f-lt0
-returns-then-f-lt0 c =
+pub returns-in_default : goal.returns-in_default
+returns-in_default c =
     let held : Held c.args.z c.covariance-f.result c.covariance-g.result c.covariance-c.result = search rules in
+    let n = negative _ c.try_from.result held.vf (simp (to_z-of_z, held.vf) at c.try_from.ensures) c.in_default.not-Ok in
     grind (arith, to_z-of_z, refused-f)
 
-pub returns-then-g-lt0 : goal.returns-then-g-lt0
-returns-then-g-lt0 c =
+pub returns-in_default-try_from : goal.returns-in_default-try_from
+returns-in_default-try_from c =
     let held : Held c.args.z c.covariance-f.result c.covariance-g.result c.covariance-c.result = search rules in
+    let n = negative _ c.try_from-2.result held.vg (simp (to_z-of_z, held.vg) at c.try_from-2.ensures) c.in_default-try_from.not-Ok in
     grind (arith, to_z-of_z, refused-g)
 
 pub returns-then-not-at_most : goal.returns-then-not-at_most

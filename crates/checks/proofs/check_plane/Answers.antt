@@ -3,7 +3,6 @@ use mathlib.Core.Path.{ap}
 use Prim.Native.Nat.{ℕ}
 use Rattle.picture.specs.Picture.{source}
 use Rattle.picture.proofs.Refusals.{sound, line-stops, line-passes, refuses, answers, refused-tells, answered-tells}
-use Rattle.picture.proofs.Found.{lengths}
 use Rattle.checks.proofs.check_plane.Goals as goal
 
 pub returns-in_err-require : goal.returns-in_err-require
@@ -17,18 +16,11 @@ returns-in_err-plane c =
 
 pub invariant_of-result : goal.invariant_of-result
 invariant_of-result c =
-    let l = lengths _ _ _ c.requires in
-    record {
-      legal = l.size;
-      length_f = l.length_f;
-      length_g = l.length_g;
-      levels_f = c.known.ensures;
-      levels_g = c.known-2.ensures;
-      shift_within = sound _ _ _ c.shift_legal.ensures c.in_ok-require.ensures;
-    }
+    let p = c.args.pictures.now in
+    record { legal = p.legal; length_f = p.length_f; length_g = p.length_g; levels_f = p.levels_f; levels_g = p.levels_g; shift_within = sound _ _ _ c.shift_legal.ensures c.in_ok-require.ensures }
 
 pub returns : goal.returns
 returns c =
-    let s = c.args.source.now in
+    let x = c.args.pictures.now in
     let plane = answered-tells _ _ _ c.in_ok-plane.ensures in
-    answers _ _ _ (line-passes _ _ _ _ _ c.shift_legal.ensures c.in_ok-require.ensures plane.0) (ap (λ (p : ℕ). source s.size s.f.now s.g.now s.shift p) plane.1)
+    answers _ _ _ (line-passes _ _ _ _ _ c.shift_legal.ensures c.in_ok-require.ensures plane.0) (ap (λ (p : ℕ). source x.size x.f.now x.g.now c.args.shift p) plane.1)

@@ -28,12 +28,7 @@ pub slice_bounds-first-end-2 : goal.slice_bounds-first-end-2
 slice_bounds-first-end-2 c = sym (length-take-le _ _ (row-fits c.args.source.now.size _ c.args.source.now.legal c.requires))
 
 pub part-requires : goal.part-requires
-part-requires c =
-    let z = c.args.source.now.size in
-    record {
-      row_inside = (in-limits z c.args.source.now.legal).some_rows;
-      part_inside = omega (arith, length-take-le _ _ (row-fits z _ c.args.source.now.legal c.requires));
-    }
+part-requires c = omega (arith, length-take-le _ _ (row-fits c.args.source.now.size _ c.args.source.now.legal c.requires))
 
 pub loop-i-init : goal.loop-i-init
 loop-i-init c =

@@ -5,10 +5,10 @@ use native.Mathlib.Omega.{arith}
 use lib.IntN.{ℤ}
 use lib.ListN.{length, drop, length-append, length-drop}
 use lib.Seq.{length-take-le}
-use Rattle.picture.proofs.Found.{limits, checked}
+use Rattle.picture.proofs.Found.{limits}
 use Rattle.numbers.proofs.Grids.{length-tabulate}
 use Rattle.picture.specs.Window.{shape_of, height}
-use Rattle.picture.specs.Picture.{Source, source, plane_at}
+use Rattle.picture.specs.Picture.{Source, plane_at}
 use Rattle.picture.specs.Checked.{given, checked_source}
 use Rattle.picture.specs.Direct.{direct_sum}
 use Rattle.picture.proofs.Planes.{plane-bound}

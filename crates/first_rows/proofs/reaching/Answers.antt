@@ -1,6 +1,6 @@
 -- `first_rows::reaching` meets its contract. Assumes nothing.
 use mathlib.Core.Path.{◌≡◌, ◌∙◌, ap}
-use Prim.Native.Nat.{ℕ, ◌+◌}
+use Prim.Native.Nat.{ℕ}
 use native.Mathlib.Omega.{arith}
 use lib.IntN.{ℤ}
 use lib.ListN.{length}
@@ -22,7 +22,5 @@ returns c =
     let cells = part.new.out in
     let whole : length cells ≡ columns = part.auto.out ∙ c.requires.room in
     added-across columns (reach (shape_of (given c.args.inputs.now.window)) c.args.m) (plane c.args.m) c.args.work.now _ cells _ whole
-    (λ n n<.
-    let here : 0 + n ≡ n = omega arith in
-    ap wrap (tabulate-at cells _ _ part.ensures n (omega (arith, whole)) ∙ ap (plane c.args.m) here))
+    (λ n n<. ap wrap (tabulate-at cells _ _ part.ensures n (omega (arith, whole))))
     (c.across.ensures ∙ ap (λ (k : ℕ). tabulate (length cells) (neighbour_sum cells k)) c.reach-k.ensures) c.requires.step.room_work c.add.ensures

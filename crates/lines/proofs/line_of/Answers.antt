@@ -1,14 +1,20 @@
 -- `lines::line_of` meets its contract. Assumes nothing.
 use native.Mathlib.Omega.{arith}
-use Rattle.lines.proofs.LineValues.{line-none, line-some, line-lies}
+use Rattle.picture.specs.Checked.{checked_source}
+use Rattle.lines.specs.Lines.{line_value}
+use Rattle.lines.proofs.LineValues.{value-none, value-some, part-g}
 use Rattle.lines.proofs.line_of.Goals as goal
 
-pub returns-then-row-top-clause-place : goal.returns-then-row-top-clause-place
-returns-then-row-top-clause-place c = line-none _ _ _ _ (λ u v. omega arith)
+pub returns-then-row-rows-clause-values : goal.returns-then-row-rows-clause-values
+returns-then-row-rows-clause-values c p k k< = value-none (checked_source c.args.source.now) c.args.counting c.args.row p k (λ u v. omega arith)
 
-pub returns-clause-place : goal.returns-clause-place
-returns-clause-place c = line-some _ _ _ _ c.if-row-top.false c.if-counting-row.false
+pub returns-clause-values : goal.returns-clause-values
+unfolding line_value
+returns-clause-values c p k k< =
+    value-some (checked_source c.args.source.now) c.args.counting c.args.row c.requires c.args.source.now.length_f c.args.source.now.length_g c.if-row-rows.false c.if-rows-row.false p k k<
 
-pub returns-clause-lies : goal.returns-clause-lies
-returns-clause-lies c =
-    line-lies _ _ _ _ _ _ c.requires.rows c.requires.columns c.args.source.now.length_f c.args.source.now.length_g c.if-row-top.false c.if-counting-row.false
+pub slice_bounds-result-end-2 : goal.slice_bounds-result-end-2
+slice_bounds-result-end-2 c =
+    let x = c.args.source.now in
+    let within = part-g (checked_source x) c.args.counting c.args.row c.requires x.length_f x.length_g c.if-row-rows.false c.if-rows-row.false in
+    omega (arith, within)

@@ -12,5 +12,5 @@ use Rattle.mean_rows.proofs.every_row.Given as goal
 
 abbrev pub invariant-loop-i : goal.invariant-loop-i
 invariant-loop-i l = let x = alone l.inputs.source.size l.inputs.source.f.now (given l.inputs.window) in
-    Lines (λ i j. mean (six_sums x i j)) l.columns l.out l.i × (l.start ≡ l.i * l.columns) × (length l.counts ≡ l.columns) × (length l.totals ≡ l.columns) × (length l.n ≡ 16 * l.columns) × (length l.s ≡ 16 * l.columns) × (length l.out ≡ length l.initial.out)
+    Lines (λ i j. mean (six_sums x i j)) l.columns l.out l.i × (length l.counts ≡ l.columns) × (length l.totals ≡ l.columns) × (length l.n ≡ 16 * l.columns) × (length l.s ≡ 16 * l.columns) × (length l.out ≡ length l.initial.out)
     × Held (on_plane x 0) l.i l.counts l.n × Held (on_plane x 1) l.i l.totals l.s × (l.i ≤ l.rows)

@@ -1,29 +1,30 @@
 -- `moments::deviation` meets its contract. Assumes nothing.
+use borrow.Author.Rules.{rules}
+use mathlib.Core.Path.{◌≡◌, refl, ◌∙◌}
+use Prim.Native.Nat.{◌*◌}
 use native.Mathlib.Omega.{arith}
-use Rattle.statistics.specs.Moments.{deviation_call}
-use Rattle.statistics.proofs.Answers.{optional-refused, empty-too, given-too}
+use mir.Syntax.{w64}
+use mir.Val.{to_z}
+use Rattle.numbers.specs.Round.{root_over}
+use lib.IntN.{pos}
+use Rattle.statistics.specs.Moments.{deviation, deviation_call}
+use Rattle.statistics.proofs.Answers.{optional-refused}
 use Rattle.statistics.proofs.Inner.{square-small, ratio, root-small, deviation-is}
+use Rattle.moments.proofs.Mapped.{mapped}
 use Rattle.moments.proofs.deviation.Goals as goal
 
-pub overflow_mul-m : goal.overflow_mul-m
-overflow_mul-m c = record { fits = omega (arith, square-small c.args.z _ (rw c.in-Some.is at c.in_ok-m.ensures)) }
+pub map-requires : goal.map-requires
+map-requires c m is =
+    let e = rw is at c.in_ok-central_moments.ensures in (
+      λ p q. record { fits = omega (arith, square-small c.args.z m e) },
+      λ p q r. ratio c.args.z m e,
+      λ p q r. record { sfits = omega (arith, root-small c.args.z m e _ r.ensures) },
+    )
 
-pub whole_root-requires : goal.whole_root-requires
-whole_root-requires c = ratio c.args.z _ (rw c.in-Some.is at c.in_ok-m.ensures)
-
-pub overflow_cast-result : goal.overflow_cast-result
-overflow_cast-result c = record { sfits = omega (arith, root-small c.args.z _ (rw c.in-Some.is at c.in_ok-m.ensures) _ c.whole_root.ensures) }
-
-pub returns-in_err-m : goal.returns-in_err-m
+pub returns-in_err-central_moments : goal.returns-in_err-central_moments
 unfolding deviation_call
-returns-in_err-m c = optional-refused c.args.z _ _ _ c.from_residual.ensures.1 c.in_err-m.ensures
-
-pub returns-in_default : goal.returns-in_default
-unfolding deviation_call
-returns-in_default c = empty-too c.args.z _ (rw c.in_default.is at c.in_ok-m.ensures)
+returns-in_err-central_moments c = optional-refused c.args.z _ _ _ c.from_residual.ensures.1 c.in_err-central_moments.ensures
 
 pub returns : goal.returns
 unfolding deviation_call
-returns c =
-    let given = rw c.in-Some.is at c.in_ok-m.ensures in
-    given-too c.args.z _ _ _ given (deviation-is c.args.z _ given _ c.whole_root.ensures)
+returns c = mapped c.args.z (pos (deviation c.args.z)) _ (λ m y e p. let q : y ≡ to_z w64 (root_over m.vf (m.count * m.count)) = search rules in q ∙ deviation-is c.args.z m e _ refl) c.in_ok-central_moments.field-0 c.map.result c.in_ok-central_moments.ensures c.map.ensures.cases

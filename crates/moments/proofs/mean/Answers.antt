@@ -1,23 +1,25 @@
 -- `moments::mean` meets its contract. Assumes nothing.
 use borrow.Author.Rules.{rules}
-use Rattle.statistics.specs.Moments.{mean_call}
-use Rattle.statistics.proofs.Answers.{optional-refused, empty-too, given-too}
+use mathlib.Core.Path.{◌≡◌, sym, ◌∙◌}
+use mir.Syntax.{w64}
+use mir.Val.{SFits, to_z, of_z}
+use mir.Facts.{to_z-of_z}
+use Rattle.numbers.specs.Round.{nearest}
+use Rattle.statistics.specs.Moments.{mean, mean_call}
+use Rattle.statistics.proofs.Answers.{optional-refused}
 use Rattle.statistics.proofs.Inner.{mean-asked, mean-is}
+use Rattle.moments.proofs.Mapped.{mapped}
 use Rattle.moments.proofs.mean.Goals as goal
 
-pub nearest-requires : goal.nearest-requires
-nearest-requires c = mean-asked c.args.z _ (rw c.in-Some.is at c.in_ok-m.ensures) (search rules)
+pub map-requires : goal.map-requires
+map-requires c m is =
+    let e = rw is at c.in_ok-central_moments.ensures in
+    λ p q r s u. mean-asked c.args.z m e (record { sfits = s })
 
-pub returns-in_err-m : goal.returns-in_err-m
+pub returns-in_err-central_moments : goal.returns-in_err-central_moments
 unfolding mean_call
-returns-in_err-m c = optional-refused c.args.z _ _ _ c.from_residual.ensures.1 c.in_err-m.ensures
-
-pub returns-in_default : goal.returns-in_default
-unfolding mean_call
-returns-in_default c = empty-too c.args.z _ (rw c.in_default.is at c.in_ok-m.ensures)
+returns-in_err-central_moments c = optional-refused c.args.z _ _ _ c.from_residual.ensures.1 c.in_err-central_moments.ensures
 
 pub returns : goal.returns
 unfolding mean_call
-returns c =
-    let given = rw c.in-Some.is at c.in_ok-m.ensures in
-    given-too c.args.z _ _ _ given (mean-is c.args.z _ given (search rules) _ (search rules) c.nearest.ensures)
+returns c = mapped c.args.z (mean c.args.z) _ (λ m y e p. let f : SFits w64 c.args.z.s = search rules in let g : SFits w64 y = search rules in let q : y ≡ nearest (to_z w64 (of_z w64 c.args.z.s)) m.count = search rules in sym (to_z-of_z g) ∙ mean-is c.args.z m e f y g q) c.in_ok-central_moments.field-0 c.map.result c.in_ok-central_moments.ensures c.map.ensures.cases

@@ -1,30 +1,30 @@
 -- `moments::variance` meets its contract. Assumes nothing.
 use borrow.Author.Rules.{rules}
+use mathlib.Core.Path.{◌≡◌, sym, ◌∙◌}
+use Prim.Native.Nat.{◌*◌}
 use native.Mathlib.Omega.{arith}
-use Rattle.statistics.specs.Moments.{variance_call}
-use Rattle.statistics.proofs.Answers.{optional-refused, empty-too, given-too}
+use mir.Syntax.{w64}
+use mir.Val.{SFits, to_z}
+use mir.Facts.{to_z-of_z}
+use Rattle.numbers.specs.Round.{nearest}
+use Rattle.statistics.specs.Moments.{variance, variance_call}
+use Rattle.statistics.proofs.Answers.{optional-refused}
 use Rattle.statistics.proofs.Inner.{square-small, spread-small, variance-asked, variance-is}
+use Rattle.moments.proofs.Mapped.{mapped}
 use Rattle.moments.proofs.variance.Goals as goal
 
-pub overflow_cast-m : goal.overflow_cast-m
-overflow_cast-m c = record { sfits = omega (arith, spread-small c.args.z _ (rw c.in-Some.is at c.in_ok-m.ensures)) }
+pub map-requires : goal.map-requires
+map-requires c m is =
+    let e = rw is at c.in_ok-central_moments.ensures in (
+      λ p q. record { sfits = omega (arith, spread-small c.args.z m e) },
+      λ p q r. record { fits = omega (arith, square-small c.args.z m e) },
+      λ p q r s. variance-asked c.args.z m e,
+    )
 
-pub overflow_mul-m : goal.overflow_mul-m
-overflow_mul-m c = record { fits = omega (arith, square-small c.args.z _ (rw c.in-Some.is at c.in_ok-m.ensures)) }
-
-pub nearest-requires : goal.nearest-requires
-nearest-requires c = variance-asked c.args.z _ (rw c.in-Some.is at c.in_ok-m.ensures)
-
-pub returns-in_err-m : goal.returns-in_err-m
+pub returns-in_err-central_moments : goal.returns-in_err-central_moments
 unfolding variance_call
-returns-in_err-m c = optional-refused c.args.z _ _ _ c.from_residual.ensures.1 c.in_err-m.ensures
-
-pub returns-in_default : goal.returns-in_default
-unfolding variance_call
-returns-in_default c = empty-too c.args.z _ (rw c.in_default.is at c.in_ok-m.ensures)
+returns-in_err-central_moments c = optional-refused c.args.z _ _ _ c.from_residual.ensures.1 c.in_err-central_moments.ensures
 
 pub returns : goal.returns
 unfolding variance_call
-returns c =
-    let given = rw c.in-Some.is at c.in_ok-m.ensures in
-    given-too c.args.z _ _ _ given (variance-is c.args.z _ given _ (search rules) c.nearest.ensures)
+returns c = mapped c.args.z (variance c.args.z) _ (λ m y e p. let g : SFits w64 y = search rules in let q : y ≡ nearest (to_z w64 m.vf) (m.count * m.count) = search rules in sym (to_z-of_z g) ∙ variance-is c.args.z m e y g q) c.in_ok-central_moments.field-0 c.map.result c.in_ok-central_moments.ensures c.map.ensures.cases

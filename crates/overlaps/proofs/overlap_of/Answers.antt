@@ -4,14 +4,14 @@ use Rattle.overlaps.proofs.Overlaps.{overlap-none, overlap-before, overlap-behin
 use Rattle.overlaps.proofs.overlap_of.Goals as goal
 
 pub returns-then-n-far : goal.returns-then-n-far
-returns-then-n-far c = overlap-none _ _ _ (simp (to_z-of_z, c.ranges.by) at c.unsigned_abs-far.ensures.value) c.if-n-far.true
+returns-then-n-far c = overlap-none _ _ _ (simp (to_z-of_z, c.ranges.by) at c.unsigned_abs-far.ensures.value) c.if-n-far.true _
 
 pub returns-then-by-lt0 : goal.returns-then-by-lt0
 returns-then-by-lt0 c =
     overlap-before _ _ _ (simp (to_z-of_z, c.ranges.by) at c.unsigned_abs-far.ensures.value) c.if-n-far.false
-    (simp (to_z-of_z, c.ranges.by) at c.if-by-lt0.true)
+    (simp (to_z-of_z, c.ranges.by) at c.if-by-lt0.true) _
 
 pub returns : goal.returns
 returns c =
     overlap-behind _ _ _ (simp (to_z-of_z, c.ranges.by) at c.unsigned_abs-far.ensures.value) c.if-n-far.false
-    (simp (to_z-of_z, c.ranges.by) at c.if-by-lt0.false)
+    (simp (to_z-of_z, c.ranges.by) at c.if-by-lt0.false) _

@@ -1,25 +1,29 @@
 -- `planes::part` meets its contract. Assumes nothing.
-use borrow.Author.Rules.{rules}
 use native.Mathlib.Omega.{arith}
 use Rattle.picture.specs.Checked.{checked_source}
-use Rattle.overlaps.proofs.Overlaps.{by_shift}
-use Rattle.planes.proofs.RowParts.{part_none, part-some, row-end, other-inside}
+use Rattle.picture.proofs.Found.{limits}
+use Rattle.lines.proofs.LineValues.{asked-part}
+use Rattle.planes.proofs.RowParts.{part-none, part-some}
 use Rattle.planes.proofs.part.Goals as goal
 
-pub returns-then-row-top : goal.returns-then-row-top
-returns-then-row-top c =
-    part_none (checked_source c.args.source.now) _ _ c.requires.row_inside (by_shift (search rules) c.overlap_of-counting.ensures) _ _ _
-    (λ u v. omega arith) c.fill.ensures
+pub clipped-columns-requires : goal.clipped-columns-requires
+clipped-columns-requires c = record {
+  ordered = omega arith;
+  others = omega (arith, c.counting_of-counting.ensures.columns.other_within, (limits c.args.source.now).few_columns);
+}
 
-pub slice_bounds-row_part-end-2 : goal.slice_bounds-row_part-end-2
-slice_bounds-row_part-end-2 c =
-    let x = c.args.source.now in
-    let o = c.overlap_of-counting.result in
-    let inside = other-inside o.first o.end o.other c.args.row x.size.rows c.if-row-top.false c.if-bottom-row.false c.overlap_of-counting.ensures.other_within in
-    omega (arith, x.length_g, row-end _ x.size.rows x.size.columns inside)
+pub line_of-requires : goal.line_of-requires
+line_of-requires c = asked-part (checked_source c.args.source.now) _ c.counting_of-counting.ensures _ _ _ c.clipped-columns.ensures c.requires
 
-pub returns : goal.returns
-returns c =
-    let x = c.args.source.now in
-    part-some (checked_source x) _ _ c.requires.row_inside (by_shift (search rules) c.overlap_of-counting.ensures) _ (by_shift (search rules) c.overlap_of.ensures)
-    c.if-row-top.false c.if-bottom-row.false x.length_f x.length_g _ _ _ c.requires.part_inside c.row_part.ensures
+pub padded-requires : goal.padded-requires
+padded-requires c = omega (arith, rw c.in-Some.is at c.line_of.ensures.cells, c.clipped-columns.result.ordered, c.clipped-columns.ensures.upto)
+
+pub returns-in-Some : goal.returns-in-Some
+returns-in-Some c =
+    part-some (checked_source c.args.source.now) _ c.counting_of-counting.ensures _ _ _ c.clipped-columns.ensures c.requires
+    c.in-Some.line (rw c.in-Some.is at c.line_of.ensures.cells) (rw c.in-Some.is at c.line_of.ensures.values _) _ c.padded.ensures
+
+pub returns-in-None : goal.returns-in-None
+returns-in-None c =
+    part-none (checked_source c.args.source.now) _ c.counting_of-counting.ensures _ _ _ c.clipped-columns.ensures c.requires
+    (rw c.in-None.is at c.line_of.ensures.values _) _ c.fill.ensures

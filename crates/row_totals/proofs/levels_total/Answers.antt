@@ -8,8 +8,8 @@ use Rattle.numbers.proofs.Writes.{at}
 use Rattle.row_totals.proofs.Totals.{exact-more, exact-fits}
 use Rattle.row_totals.proofs.levels_total.Goals as goal
 
-pub loop-k-preserved : goal.loop-k-preserved
-loop-k-preserved c =
-    let f : SFits w16 (at c.args.levels.now c.loop-k.k) = search rules in
-    let e = c.loop-k.invariant in
+pub loop-level-preserved : goal.loop-level-preserved
+loop-level-preserved c =
+    let f : SFits w16 (at c.args.levels.now c.loop-level.level-index) = search rules in
+    let e = c.loop-level.invariant in
     simp (to_z-of_z, f, fits-16-32 _ f, exact-fits _ _ _ e f (omega arith)) (exact-more _ _ _ e f)

@@ -1,6 +1,6 @@
 -- `search::by_blocks` meets its contract. Assumes nothing.
 use mathlib.Core.Path.{◌≡◌, refl, sym, ap, subst, ◌∙◌}
-use Prim.Native.Nat.{ℕ, ◌+◌, ◌-◌, ◌*◌, ◌%◌, ◌≤◌, ◌<◌}
+use Prim.Native.Nat.{ℕ, ◌+◌, ◌-◌, ◌*◌, ◌≤◌, ◌<◌}
 use native.Mathlib.Nat.{mul-le-mul_right}
 use native.Mathlib.Omega.{arith}
 use Rattle.picture.proofs.Found.{limits, checked}
@@ -11,7 +11,7 @@ use Rattle.blocks.specs.Blocks.{rows_in}
 use Rattle.hearing.proofs.Searching.{no_row}
 use Rattle.search.proofs.Kept.{Before}
 use Rattle.search.proofs.Searching.{steady_at, whole-search, found-within}
-use Rattle.search.proofs.BlockRows.{Blocks, blocks-at, few, same-behind, start-behind, ready-behind, possible, in_block, behind-block}
+use Rattle.search.proofs.BlockRows.{blocks-at, few, same-behind, start-behind, ready-behind, possible, in_block, behind-block}
 use Rattle.search.proofs.by_blocks.Goals as goal
 
 pub loop-block-init : goal.loop-block-init

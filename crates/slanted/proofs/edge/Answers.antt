@@ -5,6 +5,7 @@ use Prim.Native.Nat.{ℕ, ◌-◌, ◌<◌}
 use native.Mathlib.Omega.{arith}
 use lib.IntN.{ℤ}
 use lib.ListN.{length}
+use lib.Seq.{length-take-le}
 use borrow.Rule.Slice.PartMut.{put_mid}
 use Rattle.picture.proofs.Found.{limits}
 use Rattle.numbers.specs.Wrap.{wrap}
@@ -37,7 +38,7 @@ returns c =
     let length-changes : length changes ≡ columns = c.gain.auto.row ∙ c.requires.step.room in
     let length-behind : length behind ≡ columns - distance = c.add.auto.work ∙ slice-length distance columns c.args.work.now (omega (arith, c.requires.few)) (omega (arith, c.requires.step.room_work)) in
     let length-once : length once ≡ columns = part_length distance columns c.args.work.now behind (omega (arith, c.requires.few)) (omega (arith, c.requires.step.room_work)) length-behind ∙ c.requires.step.room_work in
-    let length_before : length before-it ≡ columns - distance - 0 = c.add-2.auto.work ∙ slice-length 0 (columns - distance) once (omega arith) (omega (arith, length-once)) in
+    let length_before : length before-it ≡ columns - distance = c.add-2.auto.work ∙ length-take-le (columns - distance) once (omega (arith, length-once)) in
     let entering : ℕ → ℤ = enter_leave c.args.inputs.now.source.size (plane_at (checked_source c.args.inputs.now.source)) c.args.i (depth (shape_of (given c.args.inputs.now.window)) distance) in
     let changes-at : (k : ℕ) → k < columns → at changes k ≡ wrap (entering k) =
     λ k k-below. tabulate-at changes _ _ c.gain.ensures k (omega (arith, length-changes))

@@ -3,8 +3,8 @@ use mathlib.Core.Path.{◌≡◌, ap, ◌∙◌}
 use Prim.Native.Nat.{ℕ, suc, ◌+◌, ◌-◌, min}
 use native.Mathlib.Omega.{arith}
 use lib.IntN.{ℤ}
-use Rattle.picture.proofs.Found.{limits, checked}
-use Rattle.picture.specs.Window.{shape_of, width, depth}
+use Rattle.picture.proofs.Found.{limits}
+use Rattle.picture.specs.Window.{shape_of, width}
 use Rattle.picture.specs.Picture.{plane_at}
 use Rattle.picture.specs.Checked.{given, checked_source}
 use Rattle.picture.proofs.Windows.{depth_small}

@@ -9,24 +9,24 @@ use Rattle.slope_rows.proofs.row.Goals as goal
 
 pub slide-requires : goal.slide-requires
 slide-requires g c =
-    let x = c.args.source.now in
+    let x = c.args.slanted.now in
     let p = c.requires.row in
-    (search rules, (search rules, rises-slide x _ _ _ p.edges g.S.Value.PlaneValue.holds _ _ g.met.S.Value.PlaneValue.small c.requires.plane g.met.S.Slope.room p.turn p.slopes c.load.ensures c.load-2.ensures c.load-3.ensures))
+    (search rules, (search rules, rises-slide x _ p.inside g.S.Value.PlaneValue.holds _ _ g.met.S.Value.PlaneValue.small c.requires.plane g.met.S.Slope.room p.turn p.slopes c.load.ensures c.load-2.ensures c.load-3.ensures))
 
 pub slide-requires-2 : goal.slide-requires-2
 slide-requires-2 g c =
-    let x = c.args.source.now in
+    let x = c.args.slanted.now in
     let p = c.requires.row in
-    (search rules, (search rules, falls-slide x _ _ _ p.edges g.S.Value.PlaneValue.holds _ _ g.met.S.Value.PlaneValue.small c.requires.plane g.met.S.Slope.room p.turn p.slopes c.load.ensures c.load-2.ensures c.load-3.ensures))
+    (search rules, (search rules, falls-slide x _ p.inside g.S.Value.PlaneValue.holds _ _ g.met.S.Value.PlaneValue.small c.requires.plane g.met.S.Slope.room p.turn p.slopes c.load.ensures c.load-2.ensures c.load-3.ensures))
 
 pub returns : goal.returns
 returns g c =
-    let x = c.args.source.now in
+    let x = c.args.slanted.now.inputs.source in
     let p = c.requires.row in
     let P = plane_at (checked_source x) in
     let columns = x.size.columns in
     let beside = plane-beside (checked_source x) in
-    let limits = row-limits x _ _ _ p.edges in
+    let limits = row-limits c.args.slanted.now _ p.inside in
     let lower = c.load.ensures in
     let middle = c.load-2.ensures in
     let upper = c.load-3.ensures in

@@ -11,35 +11,35 @@ use Rattle.slope_rows.proofs.take_in.Goals as goal
 
 pub finish_tips-requires : goal.finish_tips-requires
 finish_tips-requires g c =
-    let x = c.args.source.now in
+    let x = c.args.slanted.now in
     let p = c.requires.1 in
-    (search rules, (search rules, tips-asked x _ _ _ p.edges g.S.Value.PlaneValue.holds _ _ g.met.S.Value.PlaneValue.small c.requires.0 g.met.S.Slope.room p.turn p.slopes p.room_work p.room p.entering p.leaving))
+    (search rules, (search rules, tips-asked x _ p.inside g.S.Value.PlaneValue.holds _ _ g.met.S.Value.PlaneValue.small c.requires.0 g.met.S.Slope.room p.turn p.slopes p.room_work p.room p.entering p.leaving))
 
 pub returns-then-k-eq0 : goal.returns-then-k-eq0
 returns-then-k-eq0 g c =
-    let x = checked_source c.args.source.now in
+    let x = checked_source c.args.slanted.now.inputs.source in
     let p = c.requires.1 in
-    let limits = row-limits c.args.source.now _ _ _ p.edges in
-    let tipped = work-tipped x.size (plane_at x) (plane-past x) (plane-beside x) c.args.w c.args.h c.args.i c.args.m in
+    let limits = row-limits c.args.slanted.now _ p.inside in
+    let tipped = work-tipped x.size (plane_at x) (plane-past x) (plane-beside x) c.args.slanted.now.width c.args.slanted.now.height c.args.i c.args.m in
     let tip = c.if-k-eq0.true in (
       tipped _ _ _ _ _ _ _ p.turn (omega (arith, limits)) tip p.entering p.leaving p.slopes p.room_work c.finish_tips.ensures.0,
       tipped _ _ _ _ _ _ _ p.turn (omega (arith, limits)) tip p.entering p.leaving p.slopes p.room_work c.finish_tips.ensures.1,
     )
 
 pub flat-requires : goal.flat-requires
-flat-requires g c = flat-asked c.args.source.now _ _ _ c.requires.1.edges c.requires.1.room_work c.requires.1.room
+flat-requires g c = flat-asked c.args.slanted.now _ c.requires.1.inside c.requires.1.room_work c.requires.1.room
 
 pub finish-requires : goal.finish-requires
 finish-requires g c =
-    let x = c.args.source.now in
+    let x = c.args.slanted.now in
     let p = c.requires.1 in
-    (search rules, finish-asked x _ _ _ p.edges g.S.Value.PlaneValue.holds _ _ g.met.S.Value.PlaneValue.small c.requires.0 g.met.S.Slope.room p.turn p.slopes (c.flat.auto.work ∙ p.room_work) (c.flat.auto.row ∙ p.room))
+    (search rules, finish-asked x _ p.inside g.S.Value.PlaneValue.holds _ _ g.met.S.Value.PlaneValue.small c.requires.0 g.met.S.Slope.room p.turn p.slopes (c.flat.auto.work ∙ p.room_work) (c.flat.auto.row ∙ p.room))
 
 pub returns : goal.returns
 returns g c =
-    let x = checked_source c.args.source.now in
+    let x = checked_source c.args.slanted.now.inputs.source in
     let p = c.requires.1 in
-    let edged = work-edged x.size (plane_at x) c.args.w c.args.h c.args.i c.args.m in
+    let edged = work-edged x.size (plane_at x) c.args.slanted.now.width c.args.slanted.now.height c.args.i c.args.m in
     let in-work = c.flat.auto.work ∙ p.room_work in (
       edged _ _ _ _ _ _ p.turn p.slopes in-work c.flat.ensures c.finish.ensures.0,
       edged _ _ _ _ _ _ p.turn p.slopes in-work c.flat.ensures c.finish.ensures.1,

@@ -10,20 +10,20 @@ use Rattle.slope_starts.proofs.start.Goals as goal
 
 pub gather-requires : goal.gather-requires
 gather-requires g c =
-    let x = c.args.source.now in
-    (search rules, (search rules, rises-gather x _ _ _ c.requires.1.edges g.S.Value.PlaneValue.holds _ _ g.met.S.Value.PlaneValue.small c.requires.0 g.met.S.Slope.room c.loop-t-test.true c.loop-t.invariant.2 c.load.ensures c.load-in-loop-t.ensures))
+    let x = c.args.slanted.now in
+    (search rules, (search rules, rises-gather x _ c.requires.1.inside g.S.Value.PlaneValue.holds _ _ g.met.S.Value.PlaneValue.small c.requires.0 g.met.S.Slope.room c.loop-t-test.true c.loop-t.invariant.2 c.load.ensures c.load-in-loop-t.ensures))
 
 pub gather-requires-in-loop-t : goal.gather-requires-in-loop-t
 gather-requires-in-loop-t g c =
-    let x = c.args.source.now in
-    (search rules, (search rules, falls-gather x _ _ _ c.requires.1.edges g.S.Value.PlaneValue.holds _ _ g.met.S.Value.PlaneValue.small c.requires.0 g.met.S.Slope.room c.loop-t-test.true c.loop-t.invariant.2 c.load.ensures c.load-in-loop-t.ensures))
+    let x = c.args.slanted.now in
+    (search rules, (search rules, falls-gather x _ c.requires.1.inside g.S.Value.PlaneValue.holds _ _ g.met.S.Value.PlaneValue.small c.requires.0 g.met.S.Slope.room c.loop-t-test.true c.loop-t.invariant.2 c.load.ensures c.load-in-loop-t.ensures))
 
 pub loop-t-preserved : goal.loop-t-preserved
 loop-t-preserved g c =
-    let x = checked_source c.args.source.now in
+    let x = checked_source c.args.slanted.now.inputs.source in
     let P = plane_at x in
     let beside = plane-beside x in
-    let limits = row-limits c.args.source.now _ _ _ c.requires.1.edges in
+    let limits = row-limits c.args.slanted.now _ c.requires.1.inside in
     let lower = c.load.ensures in
     let upper = c.load-in-loop-t.ensures in (
       blank_of P x.size.columns beside _ _ lower,

@@ -1,15 +1,13 @@
 -- What the loops of `slope_starts::start` keep. Assumes nothing.
 use Prim.Native.Nat.{◌+◌}
 use mathlib.Core.List.{map}
-use Rattle.picture.specs.Picture.{plane_at}
-use Rattle.picture.specs.Checked.{checked_source}
 use Rattle.slopes.specs.Slopes.{padded}
 use Rattle.slopes.specs.Leans.{Blank}
-use Rattle.kept_slopes.specs.Edges.{Slopes}
+use Rattle.kept_slopes.specs.Edges.{plane_in, Slopes}
 use Rattle.slope_starts.proofs.start.Given as goal
 
 abbrev pub invariant-loop-t : goal.invariant-loop-t
 invariant-loop-t g l =
     let S = g.S.Slope in
     let V = g.S.Value.PlaneValue in
-    Blank (map V.value l.a) l.source.size.columns × Blank (map V.value l.b) l.source.size.columns × Slopes (padded (plane_at (checked_source l.source))) l.source.size.columns l.w l.t (128 + l.i) 0 (map S.sum l.rises) (map S.sum l.falls)
+    Blank (map V.value l.a) l.slanted.inputs.source.size.columns × Blank (map V.value l.b) l.slanted.inputs.source.size.columns × Slopes (padded (plane_in l.slanted)) l.slanted.inputs.source.size.columns l.slanted.width l.t (128 + l.i) 0 (map S.sum l.rises) (map S.sum l.falls)

@@ -1,36 +1,37 @@
 -- `window_sums::sum` meets its contract. Assumes nothing.
-use borrow.Author.Rules.{rules}
 use mathlib.Core.Path.{◌≡◌, ap, ◌∙◌}
 use Prim.Native.Nat.{ℕ, suc, ◌+◌, ◌-◌, min}
 use native.Mathlib.Omega.{arith}
 use mir.Syntax.{w64}
 use mir.Val.{SFits, to_z}
 use mir.Facts.{to_z-of_z}
-use Rattle.std.specs.Prelude.{Option}
-use Rattle.numbers.specs.Sum.{sum_to}
 use Rattle.numbers.specs.Wrap.{wrap}
 use Rattle.numbers.proofs.Running.{range_none, range-more}
-use Rattle.picture.specs.Checked.{checked_inputs}
-use Rattle.picture.proofs.Found.{checked}
-use Rattle.overlaps.proofs.Overlaps.{by_shift}
-use Rattle.lines.specs.Lines.{line_value}
-use Rattle.lines.specs.declared.Line.{Line}
-use Rattle.window_sums.proofs.Totals.{window_row, row-total, rows-done}
+use Rattle.picture.specs.Checked.{checked_source, checked_inputs}
+use Rattle.picture.proofs.Found.{checked, limits}
+use Rattle.lines.proofs.LineValues.{asked-part}
+use Rattle.window_sums.specs.Summing.{line_sum}
+use Rattle.window_sums.proofs.Totals.{few-cells, window_row, row-total, rows-done}
 use Rattle.window_sums.proofs.sum.Goals as goal
 
 pub loop-m-init : goal.loop-m-init
 loop-m-init c = range_none (window_row (checked_inputs c.args.inputs.now) c.args.cell.row c.args.cell.column) _
+
+pub line_of-requires : goal.line_of-requires
+line_of-requires c = asked-part (checked_source c.args.inputs.now.source) _ c.counting_of-counting.ensures _ _ _ c.columns_of.ensures (omega arith)
+
+pub add_line-s-requires : goal.add_line-s-requires
+add_line-s-requires c =
+    let x = c.args.inputs.now.source in
+    few-cells _ _ (omega (arith, c.columns_of.ensures.upto, (limits x).few_columns)) c.line_of.ensures.cells
 
 pub loop-m-preserved : goal.loop-m-preserved
 loop-m-preserved c =
     let l = c.loop-m in
     let x = checked_inputs c.args.inputs.now in
     let row = window_row x c.args.cell.row c.args.cell.column in
-    let part = c.columns_of-part in
     let r : SFits w64 c.add_line-s.result = record { sfits = c.add_line-s.type_inv } in
-    let line : sum_to (part.result.end - part.result.first) (line_value x.source.plane x.source.f x.source.g c.line_of-line.result) ≡ row l.m =
-    ap (λ (q : Option Line). sum_to (part.result.end - part.result.first) (line_value x.source.plane x.source.f x.source.g q)) c.line_of-line.ensures.place
-    ∙ row-total x _ _ l.m _ _ part.result (by_shift (search rules) c.overlap_of-counting.ensures) (by_shift (search rules) c.overlap_of-along.ensures) c.requires.column_inside part.ensures in
+    let line : line_sum x.source.plane c.line_of.result ≡ row l.m = row-total x _ _ l.m _ c.counting_of-counting.ensures c.columns_of.result _ c.line_of.ensures.cells (c.line_of.ensures.values _) c.requires.column_inside c.columns_of.ensures in
     to_z-of_z {w = w64} r ∙ c.add_line-s.ensures ∙ range-more row c.low-m.result l.m (to_z w64 l.s-bits) _ (omega arith) l.invariant (ap wrap line)
 
 pub returns : goal.returns

@@ -1,25 +1,23 @@
 -- `edges::rows::top_row` meets its contract. Assumes nothing.
-use mathlib.Core.Path.{◌≡◌, refl, sym, ◌∙◌}
+use mathlib.Core.Path.{refl, sym, ◌∙◌}
 use Rattle.picture.proofs.Found.{limits, checked}
 use Rattle.std.proofs.Common.{rules}
-use Prim.Native.Nat.{◌-◌}
 use native.Mathlib.Omega.{arith}
 use lib.Dec.{T}
+use lib.Seq.{length-take-le}
 use mir.Facts.{to_z-of_z}
 use mir.Syntax.{w64}
 use mir.Val.{SFits}
 use Rattle.numbers.proofs.Tests.{of-not}
-use Rattle.numbers.proofs.Writes.{slice-length}
-use Rattle.picture.specs.Picture.{Inputs, inputs}
+use Rattle.picture.specs.Picture.{Inputs}
 use Rattle.picture.specs.Checked.{checked_inputs}
-use Rattle.picture.proofs.Refusals.{in-limits}
 use Rattle.kept_slopes.proofs.Across.{fresh-row, row-front, on-and-off}
 use Rattle.std.proofs.Common.{ap, not}
 use Rattle.edges.proofs.rows.top_row.Goals as goal
 
 pub sum-sum-requires : goal.sum-sum-requires
 sum-sum-requires g c =
-    let z = limits c.args.inputs.now.source in
+    let z = limits c.args.slanted.now.inputs.source in
     record { row_inside = z.some_rows; column_inside = z.some_columns }
 
 pub first-requires : goal.first-requires
@@ -29,25 +27,25 @@ first-requires g c =
       record {
         length_rises = c.requires.length_rises;
         length_falls = c.requires.length_falls;
-        few = omega (arith, c.requires.room_work, (limits c.args.inputs.now.source).few_columns);
-        room = slice-length 0 c.args.inputs.now.source.size.columns c.args.out.now (omega arith) (c.requires.room t) ∙ omega (arith, c.requires.room_work);
+        few = omega (arith, c.requires.room_work, (limits c.args.slanted.now.inputs.source).few_columns);
+        room = length-take-le c.args.slanted.now.inputs.source.size.columns c.args.out.now (c.requires.room t) ∙ omega (arith, c.requires.room_work);
       },
     )
 
 pub returns : goal.returns
 returns g c =
-    let x : Inputs = checked_inputs c.args.inputs.now in
-    let columns = c.args.inputs.now.source.size.columns in
+    let x : Inputs = checked_inputs c.args.slanted.now.inputs in
+    let fits = c.args.slanted.now.fits in
+    let columns = c.args.slanted.now.inputs.source.size.columns in
     let t : T c.args.fresh = of-not c.args.fresh (ap not c.if-not-fresh.false) in
     let corner = c.sum-sum in
     let whole : SFits w64 corner.result = record { sfits = corner.type_inv } in
     let row = c.first in
     let written = simp (to_z-of_z, whole) at row.ensures in
-    let none : columns - 0 ≡ columns = omega arith in
-    let row_room = row.auto.out ∙ slice-length 0 columns c.args.out.now (omega arith) (c.requires.room t) ∙ none in
+    let row_room = row.auto.out ∙ length-take-le columns c.args.out.now (c.requires.room t) in
     record {
       begins = λ u. refl;
-      row = λ u. fresh-row x (checked c.args.inputs.now) c.requires.slanted (c.requires.high t) _ _ c.args.work.now _ _ _ (c.requires.slopes t) corner.ensures c.requires.room_work written.0;
+      row = λ u. fresh-row x (checked c.args.slanted.now.inputs) fits.slanted (rw fits.high at (c.requires.high t)) _ _ c.args.work.now _ _ _ (rw (fits.high, fits.wide) at (c.requires.slopes t)) corner.ensures c.requires.room_work written.0;
       front = λ u. row-front columns c.args.out.now _ _ (c.requires.room t) row_room (written.1 ∙ sym written.0);
       none = λ u. absurd (on-and-off c.args.fresh t u);
       kept = λ u. absurd (on-and-off c.args.fresh t u);

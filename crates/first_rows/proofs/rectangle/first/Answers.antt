@@ -3,9 +3,10 @@ use Prim.Native.Nat.{ℕ}
 use native.Mathlib.Omega.{arith}
 use lib.IntN.{ℤ}
 use Rattle.picture.proofs.Found.{limits}
-use Rattle.picture.specs.Picture.{Source, source, plane_at}
+use Rattle.picture.specs.Picture.{Source, plane_at}
 use Rattle.picture.specs.Checked.{checked_source}
-use Rattle.picture.proofs.Planes.{plane-bound, plane-past}
+use Rattle.picture.proofs.Planes.{plane-bound}
+use Rattle.lines.specs.Lines.{row_if_any}
 use Rattle.steps.proofs.Columns.{columns-none, columns-more, columns-all}
 use Rattle.first_rows.proofs.rectangle.first.Goals as goal
 
@@ -19,12 +20,13 @@ loop-m-init c =
     (omega arith, columns-none plane c.args.source.now.size.columns _ _ c.requires c.fill.ensures)
 
 pub loop-m-preserved : goal.loop-m-preserved
+unfolding row_if_any
 loop-m-preserved c =
     let pictures : Source = checked_source c.args.source.now in
     let plane : ℕ → ℕ → ℤ = plane_at pictures in
     let l = c.loop-m in (
       omega arith,
-      columns-more plane c.args.source.now.size.columns l.m c.args.source.now.size.rows _ _ (λ j. plane-past pictures c.args.source.now.size.rows j (omega arith)) l.invariant.1 c.exchange.ensures,
+      columns-more plane c.args.source.now.size.columns l.m _ _ l.invariant.1 c.exchange.ensures,
     )
 
 pub returns : goal.returns

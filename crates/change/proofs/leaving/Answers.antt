@@ -1,0 +1,26 @@
+-- `change::leaving` meets its contract. Assumes nothing.
+use mathlib.Core.Path.{◌∙◌, sym, ap}
+use Prim.Native.Nat.{ℕ, ◌+◌}
+use Rattle.std.specs.Prelude.{Option}
+use Rattle.picture.specs.Checked.{checked_source}
+use Rattle.lines.specs.declared.line.Line.{Line}
+use Rattle.lines.specs.Lines.{line_value, row_if_any}
+use Rattle.lines.proofs.LineValues.{asked, line-off, row-value}
+use Rattle.lines.proofs.Exchanges.{none-leaves, one-leaves}
+use Rattle.change.proofs.leaving.Goals as goal
+
+pub line_of-requires : goal.line_of-requires
+line_of-requires c = asked (checked_source c.args.source.now) c.args.counting c.requires
+
+pub returns-clause-values : goal.returns-clause-values
+returns-clause-values c k k< =
+    let x = checked_source c.args.source.now in
+    let row = c.in_ok-row.row in
+    let q = c.args.counting in
+    c.line_of.ensures.values _ k k< ∙ row-value x q c.requires row k k< ∙ one-leaves x row (q.columns.first + k) ∙ ap (λ (r : Option ℕ). row_if_any x r (q.columns.first + k)) (sym c.in_ok-row.was)
+
+pub returns-in_err-row-clause-values : goal.returns-in_err-row-clause-values
+returns-in_err-row-clause-values c k k< =
+    let x = checked_source c.args.source.now in
+    let n = c.args.counting.columns.first + k in
+    ap (λ (l : Option Line). line_value x.plane l k) c.from_residual.ensures ∙ line-off x.plane k ∙ none-leaves x n ∙ ap (λ (r : Option ℕ). row_if_any x r n) (sym c.in_err-row.was)
