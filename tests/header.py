@@ -16,7 +16,6 @@ TYPES = "bindings/rust/src/types.rs"
 REFUSALS = "bindings/rust/src/refusal.rs"
 CONDITIONS = "crates/picture/specs/Conditions.antt"
 SIX_SUMS = "crates/statistics/specs/SixSums.antt"
-WINDOWS = "crates/legal_windows/src/lib.rt"
 LINES = "crates/picture/src/lib.rt"
 SHAPES = "crates/picture/src/shape.rt"
 PLANES = "crates/picture/src/plane.rt"
@@ -36,22 +35,22 @@ C_TYPES = {
 # Where each constant of the header stands as a literal, `@` for its digits; a run of blanks matches any other.
 CONSTANTS = {
     "LS_OK": [(BINDING, "OK: i32 = @;")],
-    "LS_REFUSED_SIZE": [(LINES, "Refusal::Size => @,"), (CONDITIONS, "@ when not (size_legal z)"), (REFUSALS, " Size = @,")],
-    "LS_REFUSED_PICTURE": [(LINES, "Refusal::Length => @,"), (CONDITIONS, "@ when not (eqb (length f) (cells z))"), (REFUSALS, " Picture = @,")],
-    "LS_REFUSED_WINDOW": [(LINES, "Refusal::Window => @,"), (CONDITIONS, "@ when not (window_legal w)"), (REFUSALS, " Window = @,")],
-    "LS_REFUSED_SHIFT": [(LINES, "Refusal::Shift => @,"), (CONDITIONS, "@ when not (shift_legal d)"), (REFUSALS, " Shift = @,")],
-    "LS_REFUSED_PLANE": [(LINES, "Refusal::Plane => @,"), (CONDITIONS, "@ when ltb 5 p"), (REFUSALS, " Plane = @,")],
-    "LS_REFUSED_CELL": [(LINES, "Refusal::Cell => @,"), (CONDITIONS, "@ when not (ltb i z.rows"), (REFUSALS, " Cell = @,")],
-    "LS_REFUSED_REQUEST": [(LINES, "Refusal::Position => @,"), (CONDITIONS, "@ when (ltb z.rows position"), (REFUSALS, " Request = @,")],
-    "LS_REFUSED_AREA": [(LINES, "Refusal::Area => @,"), (CONDITIONS, "@ when not (eqb given wanted)"), (REFUSALS, " Area = @,")],
-    "LS_REFUSED_SUMS": [(LINES, "Refusal::Sums => @,"), (SIX_SUMS, "(@ when impossible z)"), (REFUSALS, " Sums = @,")],
-    "LS_REFUSED_TEXT": [(LINES, "Refusal::Text => @,"), (PANEL, "framed z w None = refused @")],
+    "LS_REFUSED_SIZE": [(LINES, "    Size = @,"), (CONDITIONS, "@ when not (size_legal z)"), (REFUSALS, " Size = @,")],
+    "LS_REFUSED_PICTURE": [(LINES, "    Length = @,"), (CONDITIONS, "@ when not (eqb (length f) (cells z))"), (REFUSALS, " Picture = @,")],
+    "LS_REFUSED_WINDOW": [(LINES, "    Window = @,"), (CONDITIONS, "@ when not (window_legal w)"), (REFUSALS, " Window = @,")],
+    "LS_REFUSED_SHIFT": [(LINES, "    Shift = @,"), (CONDITIONS, "@ when not (shift_legal d)"), (REFUSALS, " Shift = @,")],
+    "LS_REFUSED_PLANE": [(LINES, "    Plane = @,"), (CONDITIONS, "@ when ltb 5 p"), (REFUSALS, " Plane = @,")],
+    "LS_REFUSED_CELL": [(LINES, "    Cell = @,"), (CONDITIONS, "@ when not (ltb i z.rows"), (REFUSALS, " Cell = @,")],
+    "LS_REFUSED_REQUEST": [(LINES, "    Position = @,"), (CONDITIONS, "@ when (ltb z.rows position"), (REFUSALS, " Request = @,")],
+    "LS_REFUSED_AREA": [(LINES, "    Area = @,"), (CONDITIONS, "@ when not (eqb given wanted)"), (REFUSALS, " Area = @,")],
+    "LS_REFUSED_SUMS": [(LINES, "    Sums = @,"), (SIX_SUMS, "(@ when impossible z)"), (REFUSALS, " Sums = @,")],
+    "LS_REFUSED_TEXT": [(LINES, "    Text = @,"), (PANEL, "framed z w None = refused @")],
     "LS_EMPTY": [(REPLIES, "const EMPTY: i32 = @;"), (BINDING, "const EMPTY: i32 = @;")],
     "LS_FLAT": [(REPLIES, "const FLAT: i32 = @;"), (BINDING, "const FLAT: i32 = @;")],
     "LS_NOWHERE": [(REPLIES, "const NOWHERE: i32 = @;"), (BINDING, "const NOWHERE: i32 = @;")],
-    "LS_RECTANGLE": [(SHAPES, "@ => Ok(Shape::Rectangle),"), (WINDOWS, "@ => rectangle_legal("), (TYPES, "shape: @, first: a, second: b")],
-    "LS_DIAMOND": [(SHAPES, "@ => Ok(Shape::Diamond),"), (WINDOWS, "@ => diamond_legal("), (TYPES, "shape: @, first: r, second: 0")],
-    "LS_HEXAGON": [(SHAPES, "@ => Ok(Shape::Hexagon),"), (WINDOWS, "@ => hexagon_legal("), (TYPES, "shape: @, first: k, second: h")],
+    "LS_RECTANGLE": [(SHAPES, "@ => Ok(Shape::Rectangle),"), (TYPES, "shape: @, first: a, second: b")],
+    "LS_DIAMOND": [(SHAPES, "@ => Ok(Shape::Diamond),"), (TYPES, "shape: @, first: r, second: 0")],
+    "LS_HEXAGON": [(SHAPES, "@ => Ok(Shape::Hexagon),"), (TYPES, "shape: @, first: k, second: h")],
     "LS_PLANE_ONE": [(PLANES, "@ => Ok(Plane::One),"), (SIX_SUMS, " n = direct_sum (on_plane x @)"), (TYPES, "ONE: Plane = Plane(@)")],
     "LS_PLANE_F": [(PLANES, "@ => Ok(Plane::F),"), (SIX_SUMS, " s = direct_sum (on_plane x @)"), (TYPES, "F: Plane = Plane(@)")],
     "LS_PLANE_G": [(PLANES, "@ => Ok(Plane::G),"), (SIX_SUMS, " t = direct_sum (on_plane x @)"), (TYPES, "G: Plane = Plane(@)")],
@@ -226,7 +225,7 @@ DAMAGES = [
     ("a function missing", BINDING, r"fn ls_panel\([^;]*;", ""),
     ("another limit", TYPES, r"PANEL_ROOM: usize = 28672", "PANEL_ROOM: usize = 28671"),
     ("another refusal", REFUSALS, r"Cell = 6", "Cell = 7"),
-    ("another refusal", LINES, r"Refusal::Area => 8", "Refusal::Area => 7"),
+    ("another refusal", LINES, r"Area = 8,", "Area = 7,"),
 ]
 
 

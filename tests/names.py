@@ -291,7 +291,7 @@ DAMAGES = [
     ("a crate missing", README, r"\n\|[^\n]*`plane_values`[^\n]*", ""),
     ("a crate missing among others", README, r"`c_direct`, ", ""),
     ("a crate twice", README, r"(\n\|[^\n]*`plane_values`[^\n]*)", r"\1\1"),
-    ("a crate below one that rests on it", README, r"(\n\|[^\n]*`lines`[^\n]*)(\n\|[^\n]*`planes`[^\n]*)", r"\2\1"),
+    ("a crate below one that rests on it", README, r"(\n\|[^\n]*`lines`[^\n]*)(\n\|[^\n]*`plane_values`[^\n]*)", r"\2\1"),
     ("a path that is not there", README, r"samples/hill\.txt", "samples/valley.txt"),
     ("a link that leads nowhere", README, r"\]\(docs/TRACE\.md\)", "](TRACE.md)"),
     ("a function that is not there", README, r"`direct::direct_sum`", "`direct::direct_sums`"),

@@ -1,4 +1,5 @@
-// The sliding sum across a row: a loop for each kind of column, so that none asks where the row ends.
+// The sliding sum across a row: a loop for each kind of column, so that none asks where the row ends. Each takes the whole row, as the sums are
+// said of it, and where its columns begin or end, since the numbers that enter and leave stand b places to their sides.
 // For callers that have checked their inputs.
 #![tactic(auto)]
 

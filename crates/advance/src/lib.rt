@@ -62,7 +62,7 @@ pub fn many(
 {
     if let Some(slanted) = kept_slopes::slanted(inputs) {
         if crossings::from_top(position, inputs.window, inputs.source.plane, n) {
-            edges::narrow::fresh(&slanted, n, work, out);
+            edges::fresh(&slanted, n, work, out);
             return;
         }
         if crossings::edges_pay(inputs.window, n) {

@@ -4,7 +4,8 @@
 --   rows::Session::rows and rows::rows_at             answer, position, work and output area of `row_call`
 --   direct::direct_sum                                the answer of `direct_call`
 --   table::build, table::read                         answer and area of `build_call`; the answer of `read_call`
---   moments::mean, variance, deviation, voice_answer  the answers of `mean_call`, `variance_call`, `deviation_call`, `voice_call`
+--   moments::mean, variance, deviation                the answers of `mean_call`, `variance_call`, `deviation_call`
+--   voices::voice_answer                              the answer of `voice_call`
 --   correlation::coefficient                          the answer of `coefficient_call`
 -- A list of calls of `rows` on one session leaves, call by call, what `next` says of `Progress`; the session's position and work area
 -- after one call are those before the next. The pictures are slices of i16, so `Levels` holds of their contents. The table's area is

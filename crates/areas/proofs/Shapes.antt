@@ -1,13 +1,14 @@
 -- The work area of the row at a position, and its output row, shape by shape.
 -- Assumes nothing.
 use mathlib.Core.Path.{◌≡◌, refl, sym, ◌∙◌, ap}
-use Prim.Native.Nat.{ℕ, zero, suc, ◌-◌, ◌≤◌, ◌<◌, min}
+use Prim.Native.Nat.{ℕ, suc, ◌-◌, ◌≤◌, min}
 use native.Mathlib.Omega.{arith}
-use mathlib.Core.Bool.{Bool, true, false, true≢false}
+use mathlib.Core.Bool.{true, false, true≢false}
 use mathlib.Core.List.{List}
 use lib.Dec.{leb}
 use lib.ListN.{length}
-use lib.IntN.{ℤ, pos, ◌+ℤ◌}
+use Rattle.std.specs.Prelude.{Option, None, Some, SomeIff}
+use lib.IntN.{ℤ, ◌+ℤ◌}
 use Rattle.numbers.specs.Grid.{tabulate}
 use Rattle.numbers.specs.Sum.{sum_to, pick, dist}
 use Rattle.numbers.specs.Wrap.{wrap}
@@ -21,6 +22,18 @@ use Rattle.slanted.specs.Edges.{edges_to}
 use Rattle.across.specs.Across.{neighbour_sum}
 use Rattle.slanted.proofs.EdgeRows.{edges_are}
 
+-- ---- the work area
+-- the row above a position, if there is one
+pub no-row : (o : Option ℕ) (position : ℕ) → SomeIff o (1 ≤ position) (position - 1) → o ≡ None → position ≡ 0
+no-row None position s e = omega (arith, s)
+no-row (Some i) position s e = cc
+
+pub row-above : (o : Option ℕ) (position i : ℕ) → SomeIff o (1 ≤ position) (position - 1) → o ≡ Some i → position ≡ suc i
+row-above None position i s e = cc
+row-above (Some j) position i s e =
+    let same : j ≡ i = cc in
+    omega (arith, s.0, s.1, same)
+
 module _ (z : Size) (P : ℕ → ℕ → ℤ) (work out : List ℤ) where
   pub area-rectangle-first : (s : Shape) (position a : ℕ) → is_rectangle s ≡ true → a ≡ height s → position ≡ 0 →
       out ≡ tabulate z.columns (column_sum z P a 0) → out ≡ work_after z P s position work
@@ -28,22 +41,16 @@ module _ (z : Size) (P : ℕ → ℕ → ℤ) (work out : List ℤ) where
   area-rectangle-first (rectangle a b) position c e h p o = rw (p, work_after, ← h) o
   area-rectangle-first (slanted o) position c e h p q = absurd (true≢false (sym e))
 
-  pub area-rectangle-next : (s : Shape) (position a : ℕ) → is_rectangle s ≡ true → a ≡ height s → (position ≡ 0 → ⊥) →
-      out ≡ tabulate z.columns (λ j. wrap (at work j +ℤ enter_leave z P (position - 1) a j)) → out ≡ work_after z P s position work
+  pub area-rectangle-next : (s : Shape) (position i a : ℕ) → is_rectangle s ≡ true → a ≡ height s → position ≡ suc i →
+      out ≡ tabulate z.columns (λ j. wrap (at work j +ℤ enter_leave z P i a j)) → out ≡ work_after z P s position work
   unfolding height work_after work_change
-  area-rectangle-next (rectangle a b) zero c e h p o = absurd (p refl)
-  area-rectangle-next (rectangle a b) (suc i) c e h p o =
-      let back : suc i - 1 ≡ i = omega arith in
-      o ∙ ap (λ (k : ℕ). tabulate z.columns (λ j. wrap (at work j +ℤ enter_leave z P k c j))) back ∙ ap (λ (d : ℕ). tabulate z.columns (λ j. wrap (at work j +ℤ enter_leave z P i d j))) h
-  area-rectangle-next (slanted o) position c e h p q = absurd (true≢false (sym e))
+  area-rectangle-next (rectangle a b) position i c e h p o = rw (p, ← h) o
+  area-rectangle-next (slanted o) position i c e h p q = absurd (true≢false (sym e))
 
-  pub area-slanted-next : (s : Shape) (position : ℕ) → is_rectangle s ≡ false → (position ≡ 0 → ⊥) →
-      out ≡ edges_to z P s (position - 1) work (min (suc (width s)) z.columns) → out ≡ work_after z P s position work
-  area-slanted-next (rectangle a b) position e p o = absurd (true≢false e)
-  area-slanted-next (slanted s) zero e p o = absurd (p refl)
-  area-slanted-next (slanted s) (suc i) e p o =
-      let back : suc i - 1 ≡ i = omega arith in
-      edges_are z P s i work out (o ∙ ap (λ (k : ℕ). edges_to z P (slanted s) k work (min (suc (width (slanted s))) z.columns)) back)
+  pub area-slanted-next : (s : Shape) (position i : ℕ) → is_rectangle s ≡ false → position ≡ suc i →
+      out ≡ edges_to z P s i work (min (suc (width s)) z.columns) → out ≡ work_after z P s position work
+  area-slanted-next (rectangle a b) position i e p o = absurd (true≢false e)
+  area-slanted-next (slanted s) position i e p o = rw p (edges_are z P s i work out o)
 
 pub area-slanted-first : (x : Inputs) (work out : List ℤ) (position : ℕ) → is_rectangle (shape_of x.window) ≡ false → position ≡ 0 →
     out ≡ tabulate x.source.size.columns (direct_sum x 0) → out ≡ work_after x.source.size (plane_at x.source) (shape_of x.window) position work

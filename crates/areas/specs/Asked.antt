@@ -5,8 +5,8 @@ use Rattle.picture.specs.declared.Size.{Size}
 use Rattle.picture.specs.declared.Window.{Window}
 use Rattle.picture.specs.Window.{window_legal}
 
--- A work area, and room for a row. The lengths stand in each contract: both are slices that are lent as `&mut`, one by one, and no ghost field of a type can
--- tie two such slices to a size.
+-- A work area, and room for a row. The lengths stand in each contract, here and below: callers lend the slices one by one, most of them as `&mut`, and no ghost
+-- field of a type can tie two of those to a size.
 pub record OutputAsked (z : Size) (work out : List ℤ) : Type 0 where
   pub room_work : length work ≡ z.columns
   pub room : length out ≡ z.columns

@@ -18,22 +18,15 @@ fn area(position: usize, inputs: &CheckedInputs<'_>, work: &mut [i64], row: &mut
     requires { StepAsked (checked_inputs inputs.now) position work.old row.old }
     ensures { work.new ≡ work_after inputs.now.source.size (plane_at (checked_source inputs.now.source)) (shape_of (given inputs.now.window)) position work.old }
 {
-    if shape::is_rectangle(inputs.window) {
-        let a = shape::height(inputs.window);
-        if position == 0 {
-            rectangle::first(&inputs.source, a, work);
-            return;
+    let above = position.checked_sub(1);
+    match (shape::is_rectangle(inputs.window), above) {
+        (true, None) => rectangle::first(&inputs.source, shape::height(inputs.window), work),
+        (true, Some(i)) => {
+            step::add_gain(&inputs.source, i, shape::height(inputs.window), work);
         }
-        let i = position - 1;
-        step::add_gain(&inputs.source, i, a, work);
-        return;
+        (false, None) => first_rows::first(inputs, work, row),
+        (false, Some(i)) => slanted::next(inputs, i, work, row),
     }
-    if position == 0 {
-        first_rows::first(inputs, work, row);
-        return;
-    }
-    let i = position - 1;
-    slanted::next(inputs, i, work, row);
 }
 
 // The output row: of a rectangle the sums across the work area, of the others the work area.
@@ -43,9 +36,9 @@ fn output(size: Size, window: CheckedWindow, work: &[i64], out: &mut [i64])
 {
     if shape::is_rectangle(window) {
         across::across(work, shape::width(window), out);
-        return;
+    } else {
+        out.copy_from_slice(work);
     }
-    out.copy_from_slice(work);
 }
 
 // The work area moves on to the row at a position, and out is its output row.

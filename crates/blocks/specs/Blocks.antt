@@ -1,6 +1,7 @@
 -- The rows of a plane's sums, in blocks of 16.
+-- Room is asked in each contract, for the reason at `areas/specs/Asked`.
 -- Assumes nothing.
-use Rattle.std.specs.Prelude.{◌≡◌, ℕ, zero, suc, ◌+◌, ◌-◌, ◌*◌, ◌%◌, ◌<◌, min, List, length, get_or, ℤ, pos}
+use Rattle.std.specs.Prelude.{◌≡◌, ℕ, zero, suc, ◌+◌, ◌-◌, ◌*◌, ◌<◌, min, List, length, get_or, ℤ, pos}
 use Rattle.numbers.specs.Grid.{tabulate}
 use Rattle.picture.specs.Window.{shape_of}
 use Rattle.picture.specs.Picture.{Inputs, plane_at}
@@ -21,19 +22,9 @@ pub record Block (x : Inputs) (b : ℕ) (work block : List ℤ) : Type 0 where
   pub sums : (r j : ℕ) → r < rows_in x b → j < x.source.size.columns → get_or block (r * x.source.size.columns + j) (pos 0) ≡ direct_sum x (b + r) j
   pub left : ready x (b + rows_in x b) work
 
--- before row i: at the start of a block a work area, and within it the block
-pub record Held (x : Inputs) (i : ℕ) (work block : List ℤ) : Type 0 where
-  pub fresh : i % 16 ≡ 0 → ready x i work
-  pub begun : 0 < i % 16 → Block x (i - i % 16) work block
-
--- a row of the picture, what stands before it, and room for a row and for a block
-pub record RowAsked (x : Inputs) (i : ℕ) (work block : List ℤ) : Type 0 where
+-- the row of the picture that the block begins at, what stands before it, and room for a row and for a block
+pub record BlockAsked (x : Inputs) (i : ℕ) (work block : List ℤ) : Type 0 where
   pub row : i < x.source.size.rows
-  pub before : Held x i work block
+  pub before : ready x i work
   pub room_work : length work ≡ x.source.size.columns
   pub room : length block ≡ 16 * x.source.size.columns
-
--- the sums of row i in its block, and what stands before the next row
-pub record RowSums (x : Inputs) (i : ℕ) (work block : List ℤ) : Type 0 where
-  pub sums : (j : ℕ) → j < x.source.size.columns → get_or block (i % 16 * x.source.size.columns + j) (pos 0) ≡ direct_sum x i j
-  pub next : Held x (suc i) work block

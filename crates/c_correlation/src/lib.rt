@@ -1,6 +1,6 @@
 // The C interface to the coefficient of six sums N, S, T, A, B, P. `replies` says what a call asks and hands back.
 // C gives its arguments one by one, and a shape, a plane and a kind as numbers.
-#![tactic(auto)]
+#![tactic(auto, unfolding(replies::specs::Reply::status, replies::specs::Reply::result_or, replies::specs::Reply::reply))]
 
 ghost use Rattle.std.specs.Prelude.{◌≡◌};
 ghost use Rattle.statistics.specs.Coefficient.{coefficient_call};
@@ -9,7 +9,7 @@ ghost use Rattle.replies.specs.Reply.{status, result_or, reply, sums, of_coeffic
 use replies::{EMPTY, FLAT, refused};
 use statistics::{Coefficient, Sums};
 
-// `correlation::coefficient`: the coefficient of f and g.
+// `correlation::coefficient`: the coefficient of f and g. Its answer has three cases, so it is taken apart here.
 #[unsafe(no_mangle)]
 pub extern "C" fn ls_coefficient(
     n: i64,
@@ -25,14 +25,12 @@ pub extern "C" fn ls_coefficient(
 {
     let sums = Sums { n, s, t, a, b, p };
     match correlation::coefficient(sums) {
-        Ok(answer) => match answer {
-            Coefficient::Empty => EMPTY,
-            Coefficient::Flat => FLAT,
-            Coefficient::Value(c) => {
-                *coefficient = c;
-                0
-            }
-        },
+        Ok(Coefficient::Empty) => EMPTY,
+        Ok(Coefficient::Flat) => FLAT,
+        Ok(Coefficient::Value(c)) => {
+            *coefficient = c;
+            0
+        }
         Err(refusal) => refused(refusal),
     }
 }

@@ -1,5 +1,5 @@
 // The C interface to what panel prints. `replies` says what a call asks and hands back.
-#![tactic(auto)]
+#![tactic(auto, unfolding(replies::specs::Reply::status, replies::specs::Reply::result_or, crate::specs::PanelReply::panel_reply, panel_text::specs::Rendered::rendered))]
 
 ghost use Rattle.std.specs.Prelude.{◌≡◌};
 ghost use Rattle.panel_text.specs.Rendered.{rendered};

@@ -1,6 +1,6 @@
 // The C interface to the voice answer of six sums N, S, T, A, B, P. `replies` says what a call asks and hands back.
 // C gives its arguments one by one, and a shape, a plane and a kind as numbers.
-#![tactic(auto)]
+#![tactic(auto, unfolding(replies::specs::Reply::status, replies::specs::Reply::result_or, replies::specs::Reply::reply))]
 
 ghost use Rattle.std.specs.Prelude.{◌≡◌};
 ghost use Rattle.statistics.specs.Voice.{voice_call};
@@ -10,6 +10,7 @@ use replies::{EMPTY, GRAINY, STEADY, refused};
 use statistics::{Sums, Voice};
 
 // `voices::voice_answer`: the kind of f's voice, 1 Steady or 2 Grainy, with its level and spread; the spread of a steady voice is 0.
+// The answer has three cases, so it is taken apart here.
 #[unsafe(no_mangle)]
 pub extern "C" fn ls_voice(
     n: i64,
@@ -29,21 +30,19 @@ pub extern "C" fn ls_voice(
 {
     let sums = Sums { n, s, t, a, b, p };
     match voices::voice_answer(sums) {
-        Ok(voice) => match voice {
-            Voice::Empty => EMPTY,
-            Voice::Steady(l) => {
-                *kind = STEADY;
-                *level = l;
-                *spread = 0.0;
-                0
-            }
-            Voice::Grainy(grain) => {
-                *kind = GRAINY;
-                *level = grain.level;
-                *spread = grain.spread;
-                0
-            }
-        },
+        Ok(Voice::Empty) => EMPTY,
+        Ok(Voice::Steady(l)) => {
+            *kind = STEADY;
+            *level = l;
+            *spread = 0.0;
+            0
+        }
+        Ok(Voice::Grainy(grain)) => {
+            *kind = GRAINY;
+            *level = grain.level;
+            *spread = grain.spread;
+            0
+        }
         Err(refusal) => refused(refusal),
     }
 }

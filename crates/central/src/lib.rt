@@ -30,12 +30,7 @@ pub fn central_moments(z: Sums) -> Result<Option<CentralMoments>, Refusal>
     if unbounded(z) {
         return Err(Refusal::Sums);
     }
-    let n = z.n;
-    let s = z.s;
-    let t = z.t;
-    let a = z.a;
-    let b = z.b;
-    let p = z.p;
+    let Sums { n, s, t, a, b, p } = z;
     let f = covariance(n, s, s, a);
     let g = covariance(n, t, t, b);
     let c = covariance(n, s, t, p);

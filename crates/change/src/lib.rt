@@ -2,7 +2,7 @@
 // For callers that have checked their inputs.
 #![tactic(auto)]
 
-ghost use Rattle.std.specs.Prelude.{◌≡◌, ℕ, ◌+◌, ◌<◌, pos, ◌+ℤ◌, ◌-ℤ◌, length, get_or, IfSome};
+ghost use Rattle.std.specs.Prelude.{◌≡◌, ℕ, suc, ◌+◌, ◌<◌, ◌≤◌, pos, ◌+ℤ◌, ◌-ℤ◌, length, get_or, Some, IfSome};
 ghost use Rattle.numbers.specs.Grid.{tabulate};
 ghost use Rattle.numbers.specs.Wrap.{wrap};
 ghost use Rattle.picture.specs.Picture.{plane_at};
@@ -10,11 +10,12 @@ ghost use Rattle.picture.specs.Plane.{plane_number};
 ghost use Rattle.picture.specs.Checked.{checked_source};
 ghost use Rattle.lines.specs.Lines.{line_length, CountingOf, HasCells, line_value, row_if_any, LinesAsked, Numbers};
 
-use exchanges as values;
+use exchanges::exchange_values;
 use lines::{Counting, Line, counting_of, line_of};
 use picture::{CheckedSource, Plane};
 
 // Every number is of 64 bits. The loop is there for the proof alone: it reads each number, whose type then says so, and keeps nothing, so the compiler leaves no code of it.
+// Not one function with `levels::known`, which says why.
 fn known(sums: &[i64])
     ensures { Numbers sums.now }
 {
@@ -23,25 +24,36 @@ fn known(sums: &[i64])
     }
 }
 
+// A row of levels 0, as long as the longest row of a picture.
+const ZEROS: [i16; 1024] = [0; 1024];
+
+// The line, or zeros in the place of one that is not there: of no plane but the first do they change a value.
+fn or_zeros<'a>(line: Option<Line<'a>>, n: usize) -> Line<'a>
+    requires few { n ≤ 1024 }
+    requires cells { IfSome line (HasCells n) }
+    ensures cells { HasCells n result }
+    ensures values { (p k : ℕ) → line_value (suc p) (Some result) k ≡ line_value (suc p) line.entry k }
+{
+    if let Some(line) = line {
+        return line;
+    }
+    Line {
+        f: &ZEROS[..n],
+        g: &ZEROS[..n],
+    }
+}
+
 // The line a enters, and the line b leaves; where there is none, nothing does.
 fn exchange_lines(plane: Plane, a: Option<Line<'_>>, b: Option<Line<'_>>, sums: &mut [i64])
     requires { LinesAsked a b sums.old }
     ensures { sums.new ≡ tabulate (length sums.old) (λ k. wrap (get_or sums.old k (pos 0) +ℤ (line_value (plane_number plane) a.entry k -ℤ line_value (plane_number plane) b.entry k))) }
 {
-    let n = sums.len();
-    match (a, b) {
-        (Some(a), Some(b)) => values::exchange_values(plane, 0, a.f, a.g, b.f, b.g, sums),
-        (Some(a), None) => {
-            // An array for the longest row: no heap is a rule of the project.
-            let zeros = [0i16; 1024];
-            values::enter_values(plane, a.f, a.g, &zeros[..n], sums);
-        }
-        (None, Some(b)) => {
-            let zeros = [0i16; 1024];
-            values::leave_values(plane, b.f, b.g, &zeros[..n], sums);
-        }
-        (None, None) => {}
+    if a.is_none() && b.is_none() {
+        return;
     }
+    let n = sums.len();
+    let by = i64::from(a.is_some()) - i64::from(b.is_some());
+    exchange_values(plane, by, or_zeros(a, n), or_zeros(b, n), sums);
 }
 
 // The line of the row that leaves, if one does and its cells count.
@@ -54,8 +66,7 @@ fn leaving<'a>(
     ensures cells { IfSome result (HasCells (line_length counting)) }
     ensures values { (k : ℕ) → k < line_length counting → line_value (plane_number source.now.plane) result k ≡ row_if_any (checked_source source.now) row (counting.columns.first + k) }
 {
-    let row = row?;
-    line_of(source, counting, row)
+    line_of(source, counting, row?)
 }
 
 // Row `enter` of the plane is added to the sums, and row `leave`, if one leaves, taken away; a row past the picture's last has no cell.

@@ -1,4 +1,4 @@
--- A window of no shape is not legal.
+-- The shape of a window by its number: one of no shape is not legal.
 -- Assumes nothing.
 use mathlib.Core.Path.{◌≡◌, refl, sym, ap, ◌∙◌}
 use Prim.Native.Nat.{ℕ, zero, suc}

@@ -1,5 +1,5 @@
 // The first refusal of a call, from the conditions 1 to 6, or its inputs with what the checks have found.
-#![tactic(auto)]
+#![tactic(auto, unfolding(picture::specs::Refusal::refusal, picture::specs::Refusal::outcome))]
 
 ghost use Rattle.std.specs.Prelude.{◌≡◌, not, [], ◌∷◌};
 ghost use Rattle.std.proofs.Math.Option.{none};
@@ -13,7 +13,7 @@ ghost use Rattle.picture.specs.Direct.{direct_checks};
 ghost use Rattle.checks.specs.Passed.{plane_checks};
 
 use legal_sizes::{cell_inside, is_full, size_legal};
-use legal_windows::{shift_legal, window_legal};
+use legal_windows::{numbers_legal, shift_legal};
 use levels::known;
 use picture::{
     Cell, CheckedInputs, CheckedPictures, CheckedSource, CheckedWindow, Inputs, Plane, Refusal,
@@ -27,7 +27,7 @@ pub fn require(sound: bool, line: Refusal) -> Result<(), Refusal>
     if sound { Ok(()) } else { Err(line) }
 }
 
-// 1, and 2 for each of two pictures.
+// 1, and 2 for each of two pictures, as each operation gives them.
 pub fn check_pictures<'a>(
     size: Size,
     f: &'a [i16],
@@ -43,12 +43,13 @@ pub fn check_pictures<'a>(
     Ok(CheckedPictures { size, f, g })
 }
 
-// 3.
+// 3. A function and no `TryFrom<Window>`, which would have to stand beside the type in `picture`, below the tests of the limits; and so `check_inputs`.
 pub fn check_window(window: Window) -> Result<CheckedWindow, Refusal>
     ensures { outcome_by given result ≡ outcome (refusal (check3 window ∷ [])) window }
 {
     let shape = Shape::try_from(window.shape)?;
-    require(window_legal(window), Refusal::Window)?;
+    let legal = numbers_legal(shape, window.first, window.second);
+    require(legal, Refusal::Window)?;
     Ok(CheckedWindow {
         shape,
         first: window.first,
@@ -56,7 +57,7 @@ pub fn check_window(window: Window) -> Result<CheckedWindow, Refusal>
     })
 }
 
-// 4 and 5: the pictures with a shift and a plane.
+// 4 and 5: the pictures with a shift and a plane, a number as the call gave it; the search, which names no plane, gives 0.
 pub fn check_plane<'a>(
     pictures: &CheckedPictures<'a>,
     shift: Shift,

@@ -4,11 +4,10 @@
 
 ghost use Rattle.std.specs.Prelude.{◌≡◌, ◌≤◌, T, length};
 ghost use Rattle.numbers.specs.Wrap.{wrap};
-ghost use Rattle.picture.specs.Size.{size_legal, cells};
+ghost use Rattle.picture.specs.Size.{size_legal, cells, Within};
 ghost use Rattle.picture.specs.Window.{shape_of};
 ghost use Rattle.picture.specs.Checked.{given};
 ghost use Rattle.cumulative.specs.Table.{corner, four_corners, read_rectangle, read_rows, read_table};
-ghost use Rattle.corners.specs.Corners.{Within};
 
 use picture::{Cell, CheckedWindow, Size};
 use std::ops::Range;
@@ -49,14 +48,14 @@ impl Table<'_> {
         wrapping::wrapping_add(without_left, top_left)
     }
 
-    // The rectangle of half sizes a and b on the cell (i, j).
-    fn rectangle(&self, a: usize, b: usize, i: usize, j: usize) -> i64
-        requires { Within self.now.size i j × (a ≤ 127) × (b ≤ 127) }
-        ensures { result ≡ wrap (read_rectangle self.now.size self.now.numbers.now a b i j) }
+    // The rectangle of half sizes a and b on a cell.
+    fn rectangle(&self, a: usize, b: usize, cell: Cell) -> i64
+        requires { Within self.now.size cell.row cell.column × (a ≤ 127) × (b ≤ 127) }
+        ensures { result ≡ wrap (read_rectangle self.now.size self.now.numbers.now a b cell.row cell.column) }
     {
-        let top = clip::low(i, a);
-        let left = clip::low(j, b);
-        self.four_corners(top..i + a + 1, left..j + b + 1)
+        let top = clip::low(cell.row, a);
+        let left = clip::low(cell.column, b);
+        self.four_corners(top..cell.row + a + 1, left..cell.column + b + 1)
     }
 
     // "A diamond or hexagon is read as one-row rectangles."
@@ -71,7 +70,7 @@ impl Table<'_> {
         for m in clip::low(row, height)..end {
             let distance = clip::distance(row, m);
             let reach = reaches::reach(window, distance);
-            let part = self.rectangle(0, reach, m, cell.column);
+            let part = self.rectangle(0, reach, Cell { row: m, ..cell });
             sum = wrapping::wrapping_add(sum, part);
         }
         sum
@@ -85,7 +84,7 @@ impl Table<'_> {
         if shape::is_rectangle(window) {
             let height = shape::height(window);
             let width = shape::width(window);
-            self.rectangle(height, width, cell.row, cell.column)
+            self.rectangle(height, width, cell)
         } else {
             self.row_by_row(window, cell)
         }

@@ -1,5 +1,5 @@
 // How two pictures go together: the coefficient.
-#![tactic(auto)]
+#![tactic(auto, unfolding(picture::specs::Refusal::refusal, picture::specs::Refusal::outcome, statistics::specs::Central::central_call, statistics::specs::Coefficient::coefficient_call))]
 
 ghost use Rattle.std.specs.Prelude.{◌≡◌};
 ghost use Rattle.numbers.specs.Round.{root_over};

@@ -1,4 +1,5 @@
-// Where many rows come by the slopes of a window's edges: wherever that is the faster way.
+// Where many rows come by the slopes of a window's edges: wherever that is the faster way. Both tests ask of the window whether it has slopes, though their caller
+// has them in a `kept_slopes::SlantedInputs`, so that each promise stands by itself, below the slopes.
 #![tactic(auto)]
 
 ghost use Rattle.picture.specs.Plane.{plane_number};

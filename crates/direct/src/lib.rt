@@ -1,5 +1,5 @@
 // The direct sum: its checks, and the sum of the plane over the window.
-#![tactic(auto)]
+#![tactic(auto, unfolding(picture::specs::Refusal::refusal, picture::specs::Refusal::outcome, picture::specs::Direct::direct_call))]
 
 ghost use Rattle.std.specs.Prelude.{◌≡◌};
 ghost use Rattle.picture.specs.Given.{inputs_of};

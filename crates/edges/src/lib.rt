@@ -1,15 +1,16 @@
-// Many rows of a diamond's or hexagon's window sums, at a cost that does not grow with the window: the slopes of its edges are kept from row to row.
+// Many rows of a diamond's or hexagon's window sums, at a cost that does not grow with the window: the slopes of its edges are kept from row to row. Planes 0, 1
+// and 2, whose values are ones and levels, have rows of 16 bits and slopes of 32; the others rows and slopes of 64.
 #![tactic(auto)]
 
 ghost use Rattle.std.specs.Prelude.{suc};
 ghost use Rattle.picture.specs.Window.{shape_of};
 ghost use Rattle.picture.specs.Checked.{given};
 ghost use Rattle.session.specs.Rows.{strip, Advanced};
-ghost use Rattle.kept_slopes.specs.Edges.{plane_in, ManyAsked};
+ghost use Rattle.kept_slopes.specs.Edges.{plane_in, ManyAsked, FreshAsked};
 
 use kept_slopes::SlantedInputs;
+use rows::rows_from;
 
-pub mod narrow; // narrow.rt: planes 0 to 2, whose values are ones and levels
 mod rows; // rows.rt: rows of any width
 
 // n rows behind row i, of which the work area has the sums.
@@ -18,8 +19,16 @@ pub fn many(slanted: &SlantedInputs<'_>, i: usize, n: usize, work: &mut [i64], o
     ensures { Advanced (strip slanted.now.inputs.source.size (plane_in slanted.now) (shape_of (given slanted.now.inputs.window)) (suc i) n work.old) work.new out.new }
 {
     if slanted.inputs.source.plane.is_narrow() {
-        narrow::many(slanted, i, n, work, out);
-        return;
+        rows_from::<i32>(false, slanted, i, n, work, out);
+    } else {
+        rows_from::<i64>(false, slanted, i, n, work, out);
     }
-    rows::rows_from::<i64>(false, slanted, i, n, work, out);
+}
+
+// The first n rows, of a plane of ones or levels.
+pub fn fresh(slanted: &SlantedInputs<'_>, n: usize, work: &mut [i64], out: &mut [i64])
+    requires { FreshAsked slanted.now n work.old out.old }
+    ensures { Advanced (strip slanted.now.inputs.source.size (plane_in slanted.now) (shape_of (given slanted.now.inputs.window)) 0 n work.old) work.new out.new }
+{
+    rows_from::<i32>(true, slanted, 0, n - 1, work, out);
 }

@@ -74,7 +74,7 @@ fn top_row<S: Slope>(
 // n rows behind row i, and row 0 before them where they are fresh.
 // One function for both, which the flag tells apart: with two callers of the loops the compiler did not put them where the arrays are made, and 256 rows over a diamond
 // of 2 took 1.65 times as long.
-// The rows and slopes are five arrays and no struct: over the fields of one the loops took 1.1 times as long or more, as the compiler does not see that they lie apart.
+// The rows and slopes are five arrays, for the widest row with its margins, since there is no heap, and no struct: over the fields of one the loops took 1.1 times as long or more, as the compiler does not see that they lie apart.
 pub fn rows_from<S: Slope>(
     fresh: bool,
     slanted: &SlantedInputs<'_>,

@@ -1,4 +1,5 @@
 -- What filling asks of its callers, and what it finds.
+-- Room is asked in each contract, for the reason at `areas/specs/Asked`.
 -- Assumes nothing.
 use Rattle.std.specs.Prelude.{◌≡◌, List, ℕ, ◌<◌, length, get_or, ℤ, pos}
 use Rattle.picture.specs.declared.Size.{Size}

@@ -1,5 +1,5 @@
-// Building the table, one pass over the picture: a row of levels is summed as it is read; any other row of the plane is written where the table's is to
-// stand, and summed there.
+// Building the table, one pass over the picture: a row of levels behind the first is summed as it is read; any other row of the plane is written where the
+// table's is to stand, and summed there.
 // For callers that have checked their inputs.
 #![tactic(auto)]
 
@@ -23,7 +23,7 @@ fn levels_of<'a>(source: &CheckedSource<'a>, i: usize) -> Option<&'a [i16]>
 {
     let counting = counting_of(source);
     let along = counting.columns;
-    if along.end - along.first < source.size.columns {
+    if along.len() < source.size.columns {
         return None;
     }
     let line = line_of(source, counting, i)?;

@@ -1,4 +1,5 @@
 -- What the functions of a slanted window's row 0 ask of their inputs.
+-- Room is asked in each contract, for the reason at `areas/specs/Asked`.
 -- Assumes nothing.
 use Rattle.std.specs.Prelude.{◌≡◌, ℕ, List, length, ℤ}
 use Rattle.picture.specs.Picture.{Inputs}

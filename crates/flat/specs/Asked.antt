@@ -1,4 +1,5 @@
 -- What the flat parts of an edge ask.
+-- Room is asked in each contract, for the reason at `areas/specs/Asked`.
 -- Assumes nothing.
 use Rattle.std.specs.Prelude.{◌≡◌, ℕ, List, length, ℤ}
 use Rattle.picture.specs.declared.Size.{Size}

@@ -29,8 +29,8 @@ fn heard(n: i64, s: i64, a: i64) -> Voice
     voices::voice_answer(sums).unwrap()
 }
 
-// "the search leaves both rows and columns at the first hit": the first steady cell of rows whose sums stand in n, s and a, in row order. Three areas, and
-// none of records, since each is lent to the steps of a plane of its own.
+// "the search leaves both rows and columns at the first hit": the first steady cell of rows whose sums stand in n, s and a, in row order. The label is what document 01's
+// forms name for this. Three areas, and none of records, since each is lent to the steps of a plane of its own.
 pub fn first(rows: usize, columns: usize, n: &[i64], s: &[i64], a: &[i64]) -> Option<Cell>
     requires { CellsAsked rows columns n.now s.now a.now }
     ensures { option_of result ≡ find_cell (steady_in columns n.now s.now a.now) columns 0 rows }

@@ -94,10 +94,6 @@ output-few false n columns l h k r s =
     let fewer : n ≤ 256 = omega arith in
     omega (arith, s tt, mul-le-mul fewer k)
 
--- the slopes of row 0, with the window's height and width as the code has them
-pub slopes-top : (Q : ℕ → ℕ → ℤ) (columns w h w' h' i : ℕ) (rises falls : List ℤ) → w' ≡ w → h' ≡ h → i ≡ 0 → Slopes Q columns w' h' (128 + i) 0 rises falls → Slopes Q columns w h 128 0 rises falls
-slopes-top Q columns w h w' h' i rises falls ew eh e s = rw (← ew, ← eh) (subst (λ (k : ℕ). Slopes Q columns w' h' (128 + k) 0 rises falls) e s)
-
 -- the rest of an area put behind its front
 put_rest : (start end : ℕ) (out rest : List ℤ) → start ≤ end → length out ≡ end → length rest ≡ end - start → put_mid start (end - start) out rest ≡ take start out ++ rest
 put_rest start end out rest h e er =

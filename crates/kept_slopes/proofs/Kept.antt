@@ -14,7 +14,7 @@ use Rattle.numbers.specs.Grid.{tabulate}
 use Rattle.numbers.specs.Wrap.{wrap}
 use Rattle.numbers.proofs.Grids.{tabulate-cong, get_d_tabulate}
 use Rattle.numbers.proofs.Wraps.{wrap-add}
-use Rattle.numbers.proofs.Writes.{at, at-past}
+use Rattle.numbers.proofs.Writes.{at}
 use Rattle.picture.specs.declared.Size.{Size}
 use Rattle.picture.specs.Size.{column_gap}
 use Rattle.session.specs.Rows.{enter_leave}
@@ -23,11 +23,12 @@ use Rattle.slopes.proofs.Moves.{padded-left, padded-right, rising_none, falling-
 use Rattle.slopes.proofs.Parts.{tips}
 use Rattle.slopes.specs.Leans.{Blank, Holds, Within, Moved, gathered, slid, taken, taken_tips}
 use Rattle.kept_slopes.specs.Edges.{Slopes}
+use Rattle.std.proofs.lemmas.List.{get_or_past}
 
 -- ---- rows of zeros
 zero-at : (n x : ℕ) → Dec (x < n) → at (replicate n (pos 0)) x ≡ pos 0
 zero-at n x (yes l) = get_or-replicate n x (pos 0) (pos 0) l
-zero-at n x (no l) = at-past (replicate n (pos 0)) x (omega (arith, length-replicate n (pos 0)))
+zero-at n x (no l) = get_or_past (replicate n (pos 0)) x (pos 0) (omega (arith, length-replicate n (pos 0)))
 
 pub zeros-blank : (n columns : ℕ) → n ≡ 1536 → Blank (replicate n (pos 0)) columns
 zeros-blank n columns e = record { size = length-replicate n (pos 0) ∙ e; low = λ x l. zero-at n x (dec_lt x n); high = λ x l. zero-at n x (dec_lt x n) }

@@ -1,5 +1,6 @@
 -- The slopes of a slanted window's edges as the code keeps them from row to row, and what its functions ask. That the window is no rectangle, and of which height
 -- and width, stands in the type of their inputs.
+-- Room is asked in each contract, for the reason at `areas/specs/Asked`.
 -- Assumes nothing.
 use Rattle.std.specs.Prelude.{◌≡◌, ℕ, zero, suc, ◌+◌, ◌-◌, ◌*◌, ◌≤◌, ◌<◌, Bool, not, List, T, length, get_or, take, ℤ, pos, ◌+ℤ◌, ◌-ℤ◌}
 use Rattle.numbers.specs.Grid.{tabulate}
@@ -111,7 +112,7 @@ pub record AfterAsked (holds : ℕ → Type 0) (x : SlantedInputs) (i n : ℕ) (
   pub slopes : Slopes (padded (plane_in x)) x.inputs.source.size.columns x.width x.height (128 + i) 0 rises falls
   pub leaving : Holds c (padded (plane_in x) (128 + i - x.height))
 
--- a window that has slopes, the first rows of the picture, one at least, a work area, and room for those rows
+-- A window that has slopes: its height is 1 at least, which is not so of every slanted window; the first rows of the picture, one at least, a work area, and room for those rows
 pub record FreshAsked (x : SlantedInputs) (n : ℕ) (work out : List ℤ) : Type 0 where
   pub plane : plane_number x.inputs.source.plane ≤ 2
   pub high : 1 ≤ x.height

@@ -52,7 +52,7 @@ pub trait Slope: Copy {
     ghost slopes_fit: { 1536 * type_size Self.row < 2 ^ 63 };
 }
 
-// planes 0, 1 and 2, whose values are ones and levels
+// planes 0, 1 and 2, whose values are ones and levels; widened by `as`, which the check sees through, where `from` takes an answer for each function
 impl Slope for i32 {
     type Value = i16;
 
@@ -118,6 +118,7 @@ impl Slope for i64 {
     }
 }
 
+// What is asked of values and sums is how large they are, by constants of the traits, which no type of theirs can say.
 // The loops take arrays and the places where they begin, and no slices: an array's length is known, so its bounds are, and a slope's place shifts from row to row.
 // `slide` is not `gather` twice, nor `finish_tips` `finish` with a pass for the tips: each goes once over the slopes, and that second pass costs time (256 rows over
 // a diamond of 2 take 0.74 times as long without it).

@@ -1,13 +1,14 @@
-// The limits of a window and of a shift as tests.
+// The limits of a window's numbers and of a shift as tests.
 #![tactic(auto, unfolding(picture::specs::Window::window_legal, picture::specs::Window::rectangle_legal, picture::specs::Window::diamond_legal, picture::specs::Window::hexagon_legal, picture::specs::Picture::shift_legal))]
 
 ghost use Rattle.std.specs.Prelude.{◌≡◌};
-ghost use Rattle.picture.specs.Window.{between, rectangle_legal, diamond_legal, hexagon_legal, window_legal};
+ghost use Rattle.picture.specs.Window.{window, between, rectangle_legal, diamond_legal, hexagon_legal, window_legal};
+ghost use Rattle.picture.specs.Shape.{shape_number};
 ghost use Rattle.picture.specs.Picture.{shift_legal};
 
-use picture::{Shift, Window};
+use picture::{Shape, Shift};
 
-// low ≤ x ≤ high.
+// low ≤ x ≤ high. std's method of a range: it has a name here, so that its promise in the words of the definitions stands once.
 pub fn is_between(low: i32, high: i32, x: i32) -> bool
     ensures { result ≡ between low high x }
 {
@@ -32,15 +33,14 @@ fn hexagon_legal(first: i32, second: i32) -> bool
     is_between(0, 127, first) && is_between(0, 127, second) && first + second <= 127
 }
 
-// The shape is 1 to 3, and its numbers are such as the shape allows. By the shape's number, since panel asks before any shape is made of it.
-pub fn window_legal(window: Window) -> bool
-    ensures { result ≡ window_legal window }
+// The two numbers are such as the shape allows.
+pub fn numbers_legal(shape: Shape, first: i32, second: i32) -> bool
+    ensures { result ≡ window_legal (window (shape_number shape) first second) }
 {
-    match window.shape {
-        1 => rectangle_legal(window.first, window.second),
-        2 => diamond_legal(window.first, window.second),
-        3 => hexagon_legal(window.first, window.second),
-        _ => false,
+    match shape {
+        Shape::Rectangle => rectangle_legal(first, second),
+        Shape::Diamond => diamond_legal(first, second),
+        Shape::Hexagon => hexagon_legal(first, second),
     }
 }
 

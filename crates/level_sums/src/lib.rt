@@ -13,7 +13,7 @@ pub fn next_levels(levels: &[i16], above: &[i64], row: &mut [i64])
 {
     let mut sum = 0i64;
     for j in 0..row.len() {
-        sum = wrapping::wrapping_add(sum, levels[j] as i64);
+        sum = wrapping::wrapping_add(sum, i64::from(levels[j]));
         row[j] = wrapping::wrapping_add(above[j], sum);
     }
 }

@@ -4,25 +4,30 @@ use mathlib.Core.Path.{◌≡◌, refl, sym, ◌∙◌, ap, ap₂}
 use Prim.Native.Nat.{ℕ, zero, suc, ◌+◌, ◌-◌, ◌≤◌, ◌<◌}
 use native.Mathlib.Omega.{arith}
 use native.Mathlib.Decide.{dec_lt}
+use mathlib.Core.Bool.{false}
 use mathlib.Core.List.{List}
 use lib.ListN.{length, take, drop, replicate, length-take}
-use lib.Seq.{get_or-take, get_or-drop, length-take-le}
-use lib.IntN.{ℤ, pos, negsuc, ◌+ℤ◌, ◌-ℤ◌, +ℤ_idr}
+use lib.Seq.{get_or-take, get_or-drop}
+use lib.IntN.{ℤ, pos, ◌+ℤ◌, ◌-ℤ◌, +ℤ_idr}
 use borrow.Rule.Slice.PartMut.{put_mid}
-use Rattle.std.specs.Prelude.{Option, None, Some}
+use Rattle.std.specs.Prelude.{Option, None, Some, is_some}
+use Rattle.std.proofs.lemmas.Bool.{true≢false}
+use mir.Syntax.{w64}
+use mir.Val.{to_z, of_z, bool_byte as from_bool}
 use Rattle.numbers.specs.Grid.{tabulate}
 use Rattle.numbers.specs.Wrap.{wrap}
-use Rattle.numbers.proofs.Writes.{at, is-tabulate, tabulate-at, part-before, part-within, part-after, part_length, slice_at, slice-length, at-past}
+use Rattle.numbers.proofs.Writes.{at, is-tabulate, tabulate-at, part-before, part-within, part-after, part_length, slice_at, slice-length}
 use Rattle.picture.specs.Picture.{Source, plane_value, plane_at}
 use Rattle.overlaps.specs.Overlaps.{Overlapping}
-use Rattle.plane_values.proofs.ByPlane.{tabulate-as}
+use Rattle.numbers.proofs.Grids.{tabulate-cong}
 use Rattle.lines.specs.declared.Counting.{Counting}
 use Rattle.lines.specs.declared.line.Line.{Line}
-use Rattle.lines.specs.Lines.{line_length, CountingOf, line_value, row_value, row_if_any, change_value, Numbers, HasCells, OneSideAsked}
+use Rattle.lines.specs.Lines.{line_length, CountingOf, line_value, row_value, row_if_any, change_value, Numbers}
 use Rattle.lines.proofs.LineValues.{line-off, row-value, column-outside}
+use Rattle.std.proofs.lemmas.List.{get_or_past}
 
 -- zeros, and a part of them, are 0 at every place
-zeros-at : (m n k : ℕ) → at (take m (replicate n (pos 0))) k ≡ pos 0
+pub zeros-at : (m n k : ℕ) → at (take m (replicate n (pos 0))) k ≡ pos 0
 zeros-at zero n k = refl
 zeros-at (suc m) zero k = refl
 zeros-at (suc m) (suc n) zero = refl
@@ -34,9 +39,9 @@ slice-numbers n lo l w = record { whole = λ k. go k (dec_lt k n) }
   where
     go : (k : ℕ) → Dec (k < n) → wrap (at (take n (drop lo l)) k) ≡ at (take n (drop lo l)) k
     go k (yes h) = rw (get_or-take n (drop lo l) k (pos 0) h, get_or-drop lo l k (pos 0)) (w.whole (lo + k))
-    go k (no h) = rw (at-past (take n (drop lo l)) k (omega (arith, length-take n (drop lo l)))) (unfold wrap in refl)
+    go k (no h) = rw (get_or_past (take n (drop lo l)) k (pos 0) (omega (arith, length-take n (drop lo l)))) (unfold wrap in refl)
 
--- ---- a change, where one side is zeros or as many cells leave as enter
+-- ---- what a sum gains by two lines, where zeros stand in the place of one that is not there
 -- of levels 0, every plane but the first is 0
 value-of-0 : (p : ℕ) → plane_value (suc p) (pos 0) (pos 0) ≡ pos 0
 unfolding plane_value
@@ -46,63 +51,39 @@ value-of-0 (suc (suc zero)) = refl
 value-of-0 (suc (suc (suc zero))) = refl
 value-of-0 (suc (suc (suc (suc p)))) = refl
 
-change-both : (p : ℕ) (a b c d : ℤ) → change_value p (pos 0) a b c d ≡ plane_value p a b -ℤ plane_value p c d
-unfolding change_value plane_value
-change-both zero a b c d = refl
-change-both (suc p) a b c d = refl
+pub zeros-none : (p k : ℕ) (l : Line) → at l.f.now k ≡ pos 0 → at l.g.now k ≡ pos 0 → line_value (suc p) (Some l) k ≡ line_value (suc p) None k
+unfolding line_value
+zeros-none p k l f g = ap₂ (plane_value (suc p)) f g ∙ value-of-0 p
 
-change-enter : (p : ℕ) (a b : ℤ) → change_value p (pos 1) a b (pos 0) (pos 0) ≡ plane_value p a b -ℤ pos 0
-unfolding change_value plane_value
-change-enter zero a b = refl
-change-enter (suc p) a b = ap (λ (y : ℤ). plane_value (suc p) a b -ℤ y) (value-of-0 p)
+gained : (p k : ℕ) (by : ℤ) (a b : Option Line) (x y : Line) → by ≡ pos (from_bool (is_some a)) -ℤ pos (from_bool (is_some b)) →
+    ((p k : ℕ) → line_value (suc p) (Some x) k ≡ line_value (suc p) a k) → ((p k : ℕ) → line_value (suc p) (Some y) k ≡ line_value (suc p) b k) →
+    change_value p by (at x.f.now k) (at x.g.now k) (at y.f.now k) (at y.g.now k) ≡ line_value p a k -ℤ line_value p b k
+unfolding change_value line_value plane_value
+gained zero k by None None x y e u v = e
+gained zero k by None (Some b) x y e u v = e
+gained zero k by (Some a) None x y e u v = e
+gained zero k by (Some a) (Some b) x y e u v = e
+gained (suc p) k by a b x y e u v = ap₂ (λ (i j : ℤ). i -ℤ j) (u p k) (v p k)
 
-change-leave : (p : ℕ) (c d : ℤ) → change_value p (negsuc 0) (pos 0) (pos 0) c d ≡ pos 0 -ℤ plane_value p c d
-unfolding change_value plane_value
-change-leave zero c d = refl
-change-leave (suc p) c d = ap (λ (y : ℤ). y -ℤ plane_value (suc p) c d) (value-of-0 p)
+pub lines-gained : (p : ℕ) (by : ℤ) (a b : Option Line) (x y : Line) (sums out : List ℤ) → by ≡ pos (from_bool (is_some a)) -ℤ pos (from_bool (is_some b)) →
+    ((p k : ℕ) → line_value (suc p) (Some x) k ≡ line_value (suc p) a k) → ((p k : ℕ) → line_value (suc p) (Some y) k ≡ line_value (suc p) b k) →
+    out ≡ tabulate (length sums) (λ k. wrap (at sums k +ℤ change_value p by (at x.f.now k) (at x.g.now k) (at y.f.now k) (at y.g.now k))) →
+    out ≡ tabulate (length sums) (λ k. wrap (at sums k +ℤ (line_value p a k -ℤ line_value p b k)))
+lines-gained p by a b x y sums out e u v o = o ∙ tabulate-cong (length sums) _ _ (λ k k<. ap (λ (z : ℤ). wrap (at sums k +ℤ z)) (gained p k by a b x y e u v))
 
--- zeros in the place of the levels of one row
-module _ (p : ℕ) (a b zeros sums out : List ℤ) (n : ℕ) (none : (k : ℕ) → at zeros k ≡ pos 0) where
-  pub entered : out ≡ tabulate n (λ k. wrap (at sums k +ℤ change_value p (pos 1) (at a k) (at b k) (at zeros k) (at zeros k))) → out ≡ tabulate n (λ k. wrap (at sums k +ℤ (plane_value p (at a k) (at b k) -ℤ pos 0)))
-  entered o =
-      tabulate-as n _ (λ k. wrap (at sums k +ℤ (plane_value p (at a k) (at b k) -ℤ pos 0))) out o
-      (λ k. sym (ap (λ (y : ℤ). wrap (at sums k +ℤ y)) (ap (λ (y : ℤ). change_value p (pos 1) (at a k) (at b k) y y) (none k) ∙ change-enter p (at a k) (at b k))))
-
-  pub left : out ≡ tabulate n (λ k. wrap (at sums k +ℤ change_value p (negsuc 0) (at zeros k) (at zeros k) (at a k) (at b k))) → out ≡ tabulate n (λ k. wrap (at sums k +ℤ (pos 0 -ℤ plane_value p (at a k) (at b k))))
-  left o =
-      tabulate-as n _ (λ k. wrap (at sums k +ℤ (pos 0 -ℤ plane_value p (at a k) (at b k)))) out o
-      (λ k. sym (ap (λ (y : ℤ). wrap (at sums k +ℤ y)) (ap (λ (y : ℤ). change_value p (negsuc 0) y y (at a k) (at b k)) (none k) ∙ change-leave p (at a k) (at b k))))
-
--- ---- line by line: what was done with the levels of two lines, or with zeros in the place of one
--- a line's levels and zeros, as many as there are sums
-pub one-side : {sums : List ℤ} (l : Line) → length sums ≤ 1024 → HasCells (length sums) l → OneSideAsked l.f.now l.g.now (take (length sums) (replicate 1024 (pos 0))) sums
-one-side {sums} l few e = record { length_a = e; length_b = l.same ∙ e; length_zeros = length-take-le _ _ few; none = zeros-at (length sums) 1024 }
-
-module _ (p : ℕ) (sums out : List ℤ) where
-  abbrev n : ℕ
-  n = length sums
-
-  abbrev exchanged : (a b : Option Line) → ℕ → ℤ
-  exchanged a b k = wrap (at sums k +ℤ (line_value p a k -ℤ line_value p b k))
-
-  pub both-lines : (a b : Line) → out ≡ tabulate n (λ k. wrap (at sums k +ℤ change_value p (pos 0) (at a.f.now k) (at a.g.now k) (at b.f.now k) (at b.g.now k))) → out ≡ tabulate n (exchanged (Some a) (Some b))
-  unfolding line_value
-  both-lines a b o =
-      tabulate-as n _ (exchanged (Some a) (Some b)) out o
-      (λ k. sym (ap (λ (y : ℤ). wrap (at sums k +ℤ y)) (change-both p (at a.f.now k) (at a.g.now k) (at b.f.now k) (at b.g.now k))))
-
-  pub first-line : (a : Line) → out ≡ tabulate n (λ k. wrap (at sums k +ℤ (plane_value p (at a.f.now k) (at a.g.now k) -ℤ pos 0))) → out ≡ tabulate n (exchanged (Some a) None)
-  unfolding line_value
-  first-line a o = o
-
-  pub second-line : (b : Line) → out ≡ tabulate n (λ k. wrap (at sums k +ℤ (pos 0 -ℤ plane_value p (at b.f.now k) (at b.g.now k)))) → out ≡ tabulate n (exchanged None (Some b))
-  unfolding line_value
-  second-line b o = o
-
-pub no_line : (p : ℕ) (sums : List ℤ) → Numbers sums → sums ≡ tabulate (length sums) (λ k. wrap (at sums k +ℤ (line_value p None k -ℤ line_value p None k)))
-no_line p sums w =
+pub none-gained : (p : ℕ) (a b : Option Line) (sums : List ℤ) → is_some a ≡ false → is_some b ≡ false → Numbers sums → sums ≡ tabulate (length sums) (λ k. wrap (at sums k +ℤ (line_value p a k -ℤ line_value p b k)))
+none-gained p (Some a) b sums e f w = absurd (true≢false e)
+none-gained p None (Some b) sums e f w = absurd (true≢false f)
+none-gained p None None sums e f w =
     is-tabulate sums (length sums) (λ k. wrap (at sums k +ℤ (line_value p None k -ℤ line_value p None k))) refl
     (λ k k<. sym (ap (λ (y : ℤ). wrap (at sums k +ℤ y)) (ap₂ (λ (y z : ℤ). y -ℤ z) (line-off p k) (line-off p k)) ∙ ap wrap (+ℤ_idr (at sums k)) ∙ w.whole k))
+
+-- the difference that the code makes for plane 0 is that number in 64 bits too
+pub by-64 : (a b : Option Line) → to_z w64 (of_z w64 (to_z w64 (of_z w64 (pos (from_bool (is_some a)))) -ℤ to_z w64 (of_z w64 (pos (from_bool (is_some b)))))) ≡ pos (from_bool (is_some a)) -ℤ pos (from_bool (is_some b))
+by-64 None None = refl
+by-64 None (Some b) = refl
+by-64 (Some a) None = refl
+by-64 (Some a) (Some b) = refl
 
 -- ---- the row that leaves, if one does
 pub none-leaves : (x : Source) (n : ℕ) → pos 0 ≡ row_if_any x None n

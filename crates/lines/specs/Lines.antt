@@ -72,10 +72,3 @@ pub record ValuesAsked (a b c d sums : List ℤ) : Type 0 where
   pub length_b : length b ≡ length sums
   pub length_c : length c ≡ length sums
   pub length_d : length d ≡ length sums
-
--- levels of one row, and zeros in the place of the other's
-pub record OneSideAsked (a b zeros sums : List ℤ) : Type 0 where
-  pub length_a : length a ≡ length sums
-  pub length_b : length b ≡ length sums
-  pub length_zeros : length zeros ≡ length sums
-  pub none : (k : ℕ) → get_or zeros k (pos 0) ≡ pos 0

@@ -39,10 +39,11 @@ pub fn line_of<'a>(source: &CheckedSource<'a>, counting: Counting, row: usize) -
     let columns = source.size.columns;
     let rows = counting.rows;
     let along = counting.columns;
+    // Each end by itself, and no `contains` of a range: the bounds below rest on one end or the other.
     if row < rows.first || rows.end <= row {
         return None;
     }
-    let n = along.end - along.first;
+    let n = along.len();
     let lo = row * columns + along.first;
     let at = (rows.other + (row - rows.first)) * columns + along.other;
     Some(Line {

@@ -10,7 +10,7 @@ pub fn difference(e: i16, l: i16) -> i64
     i64::from(e) - i64::from(l)
 }
 
-// a times b, of two levels: of 31 bits, which 32 hold.
+// a times b, of two levels: of 31 bits, which 32 hold. Named for the same reason.
 pub fn product(a: i16, b: i16) -> i64
     ensures { result ≡ a *ℤ b }
 {

@@ -1,1 +1,2 @@
-pub mod RowMeans
+pub mod BlockMeans
+mod Kept

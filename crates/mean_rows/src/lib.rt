@@ -1,4 +1,4 @@
-// The mean at every cell: N and S of a row from its row steps, and the mean of each of its cells.
+// The mean at every cell: N and S of 16 rows at a time, and the mean of each of their cells.
 #![tactic(auto)]
 
 ghost use Rattle.std.specs.Prelude.{◌≡◌};
@@ -10,7 +10,7 @@ use blocks::next;
 use means::row_means;
 use picture::{CheckedInputs, Plane};
 
-// The means of every row of a picture alone; counts and totals are room for a row each, n and s for 16 rows.
+// The means of every row of a picture alone, 16 rows after the other; counts and totals are room for a row each, n and s for 16 rows.
 fn every_row(
     inputs: &CheckedInputs<'_>,
     counts: &mut [i64],
@@ -26,19 +26,20 @@ fn every_row(
     let columns = inputs.source.size.columns;
     let ones = inputs.on_plane(Plane::One);
     let levels = inputs.on_plane(Plane::F);
-    for i in 0..rows {
-        let start = i * columns;
-        let end = start + columns;
+    for block in 0..rows.div_ceil(16) {
+        let i = 16 * block;
         next(i, &ones, counts, n);
         next(i, &levels, totals, s);
-        let from = i % 16 * columns;
-        let upto = from + columns;
-        row_means(&n[from..upto], &s[from..upto], &mut out[start..end]);
+        let count = clip::high(i, 15, rows) - i;
+        let cells = count * columns;
+        let start = i * columns;
+        let end = start + cells;
+        row_means(&n[..cells], &s[..cells], &mut out[start..end]);
     }
 }
 
-// The means of a picture alone, with the room on the stack, since there is no heap. The arrays are no struct: `every_row` would lend two of its fields to a call,
-// and the check refuses what is lent as `&mut` behind a `&mut` that is lent itself. It was tried.
+// The means of a picture alone, with the room on the stack, since there is no heap. The arrays are no struct: `every_row` lends two of them to one call,
+// and two arrays behind a `&mut` to a struct were refused there when it was tried.
 pub fn whole(inputs: &CheckedInputs<'_>, out: &mut [i16])
     requires { SmoothAsked (checked_inputs inputs.now) out.old }
     ensures { out.new ≡ smoothed inputs.now.source.size inputs.now.source.f.now (given inputs.now.window) }

@@ -21,12 +21,12 @@ pub record LevelMean (n s : ℤ) : Type 0 where
   pub small : nat_abs s ≤ 32768 * nat_abs n
   pub level : mag (nearest s (nat_abs n)) < 2 ^ 15
 
--- N and S of a row's cells, and room for their means
+-- N and S of cells, and room for their means
 pub record MeansAsked (n s out : List ℤ) : Type 0 where
   pub length_n : length n ≡ length out
   pub length_s : length s ≡ length out
   pub each : (j : ℕ) → j < length out → LevelMean (get_or n j (pos 0)) (get_or s j (pos 0))
 
--- the means of a row's cells
+-- the means of the cells
 unfoldable pub means_of : (n s out : List ℤ) → List ℤ
 means_of n s out = tabulate (length out) (λ j. nearest (get_or s j (pos 0)) (nat_abs (get_or n j (pos 0))))

@@ -1,4 +1,4 @@
-// The means of a row of cells from their N and S.
+// The means of cells, of some rows one after the other, from their N and S.
 // For callers that have checked their inputs.
 #![tactic(auto)]
 
@@ -28,7 +28,7 @@ fn mean(s: i64, by: Reciprocal) -> i16
     by.nearest_by(s) as i16
 }
 
-// The means of a row, whose N and S stand in an area each, as the planes do. Along a row N seldom changes, so its reciprocal is kept from cell to
+// The means of such cells, whose N and S stand in an area each, as the planes do. Along a row N seldom changes, so its reciprocal is kept from cell to
 // cell.
 pub fn row_means(n: &[i64], s: &[i64], out: &mut [i16])
     requires { MeansAsked n.now s.now out.old }

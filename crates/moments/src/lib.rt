@@ -1,5 +1,5 @@
 // Mean, variance and deviation of six sums: Empty, which is None, where N = 0.
-#![tactic(auto)]
+#![tactic(auto, unfolding(picture::specs::Refusal::refusal, picture::specs::Refusal::outcome, statistics::specs::Central::central_call, statistics::specs::Moments::mean_call, statistics::specs::Moments::variance_call, statistics::specs::Moments::deviation_call))]
 
 ghost use Rattle.std.specs.Prelude.{◌≡◌};
 ghost use Rattle.picture.specs.Answers.{optional_outcome};

@@ -1,8 +1,8 @@
 -- Loops that write a list from the front, and parts of a list that are written: what the list holds then.
 -- Assumes nothing.
 use mathlib.Core.Path.{◌≡◌, refl, sym, ap, ◌∙◌}
-use mathlib.Core.List.{List, [], ◌∷◌, ◌++◌}
-use Prim.Native.Nat.{ℕ, zero, suc, ◌+◌, ◌-◌, ◌≤◌, ◌<◌}
+use mathlib.Core.List.{List, ◌++◌}
+use Prim.Native.Nat.{ℕ, ◌+◌, ◌-◌, ◌≤◌, ◌<◌}
 use native.Mathlib.Omega.{arith}
 use native.Mathlib.Decide.{ℕ_discrete}
 use lib.IntN.{ℤ, pos}
@@ -86,9 +86,3 @@ slice_at lo hi l o h k k< = get_or-take (hi - lo) (drop lo l) k (pos 0) k< ∙ g
 
 pub slice-length : (lo hi : ℕ) (l : List ℤ) → lo ≤ hi → hi ≤ length l → length (take (hi - lo) (drop lo l)) ≡ hi - lo
 slice-length lo hi l o h = simp (length-take, length-drop) (omega arith)
-
--- past the end stands 0
-pub at-past : (l : List ℤ) (k : ℕ) → length l ≤ k → at l k ≡ pos 0
-at-past [] k h = refl
-at-past (x ∷ l) zero h = absurd (omega arith)
-at-past (x ∷ l) (suc k) h = at-past l k (omega arith)

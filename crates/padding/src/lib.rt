@@ -15,12 +15,13 @@ use picture::CheckedSource;
 pub mod narrow; // narrow.rt: planes 0, 1 and 2, whose values are ones and levels
 pub mod wide; // wide.rt: planes 3, 4 and 5, whose values are products
 
-// The numbers of a row: the values of the planes that fit them.
+// The numbers of a row: the values of the planes that fit them. Each type has a `load` of its own. One for both would ask two methods in its place, to blank a
+// part of a row and to fill it with the plane, with a contract each, and save a test.
 pub trait PlaneValue: Copy {
     // the number that one stands for
     ghost value: { Self → ℤ };
 
-    // the planes whose values fit
+    // The planes whose values fit. Each function over slopes asks it of its plane in its contract: no struct has both a plane and a type of numbers.
     ghost holds: { ℕ → Type 0 };
 
     // how large those values are

@@ -1,4 +1,5 @@
-// Planes 0, 1 and 2, whose values are ones and levels: rows of 16 bits.
+// Planes 0, 1 and 2, whose values are ones and levels: rows of 16 bits. That the plane is one of them is what `PlaneValue::holds` says of i16, and each contract
+// asks it in these words; a type of such planes would be made anew of `source.plane` at every row.
 // For callers that have checked their inputs.
 ghost use Rattle.std.specs.Prelude.{◌≡◌, ◌≤◌, ◌^◌, pos, length, get_or};
 ghost use Rattle.numbers.specs.Grid.{tabulate};
@@ -29,7 +30,7 @@ fn copy(levels: &[i16], out: &mut [i16])
     out.copy_from_slice(levels);
 }
 
-// The plane's values at the cells of a line.
+// The plane's values at the cells of a line: levels as they are, where `plane_values::values` widens them and has products too.
 #[tactic(auto, unfolding(picture::specs::Picture::plane_value))]
 fn values(plane: Plane, line: Line<'_>, out: &mut [i16])
     requires { (plane_number plane ≤ 2) × (length line.f.now ≡ length out.old) }
@@ -43,7 +44,7 @@ fn values(plane: Plane, line: Line<'_>, out: &mut [i16])
     }
 }
 
-// A row of the plane, zeros where cells do not count.
+// A row of the plane, zeros where cells do not count: whole, where `planes::part`, of 64 bits, has parts of rows too.
 fn row(source: &CheckedSource<'_>, row: usize, out: &mut [i16])
     requires { (plane_number source.now.plane ≤ 2) × (length out.old ≡ source.now.size.columns) }
     ensures { out.new ≡ tabulate source.now.size.columns (plane_at (checked_source source.now) row) }

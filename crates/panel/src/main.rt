@@ -8,14 +8,6 @@ ghost use Rattle.panel_language.specs.Panel.{panel};
 use std::io;
 use std::io::{Read, Write};
 
-// An area of so many bytes: an array, since there is no heap; that of `panel_text` is of levels. The contract gives the length alone, which is all that
-// its callers need.
-fn area<const N: usize>() -> [u8; N]
-    ensures { N ≡ length result }
-{
-    [0; N]
-}
-
 // Reads until the input ends or `text` is full, and gives how many bytes it put at the front of `text`. A short read, as of a pipe, is gone
 // on with. std has no such method: `read_exact` fails where the input ends, and `read_to_end` needs the heap.
 fn read_full<R: Read>(from: &mut R, text: &mut [u8]) -> io::Result<usize>
@@ -39,9 +31,9 @@ fn run<R: Read, W: Write>(from: &mut R, to: &mut W) -> io::Result<()>
     ensures { OnOk result (IfSome (R.remaining from.old) (λ text. Appends (W.contents to.old) (W.contents to.new) (panel text))) }
 {
     // Room for the longest input that is taken, and for one byte more, which tells a longer input.
-    let mut text = area::<65537>();
+    let mut text = panel_text::area::<u8, 65537>();
     // Room for the longest output.
-    let mut out = area::<{ panel_text::ROOM }>();
+    let mut out = panel_text::area::<u8, { panel_text::ROOM }>();
     let n = read_full(from, &mut text)?;
     let count = panel_text::render(&text[..n], &mut out);
     to.write_all(&out[..count])

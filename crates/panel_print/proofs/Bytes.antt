@@ -1,68 +1,41 @@
--- Decimal digits and the bytes of an area: one more digit, how many there are, and bytes stored in parts.
+-- Decimal digits and the bytes of an area: the digits that `itoa` writes, how many there are, and bytes stored in parts.
 -- Assumes nothing.
 use mathlib.Core.Path.{◌≡◌, refl, sym, ◌∙◌, ap, subst}
-use Prim.Native.Nat.{ℕ, zero, suc, ◌+◌, ◌-◌, ◌*◌, ◌/◌, ◌%◌, ◌^◌, ◌≤◌, ◌<◌}
-use native.Mathlib.Nat.{pow-suc}
+use Prim.Native.Nat.{ℕ, suc, ◌+◌, ◌-◌, ◌^◌, ◌≤◌, ◌<◌}
 use native.Mathlib.Omega.{arith}
-use borrow.Author.Tests.{lt-ltb, le-ltb, ltb-true, ltb-false, leb-false}
-use mathlib.Core.Bool.{Bool, true, false}
 use mathlib.Core.List.{List, [], ◌∷◌, ◌++◌, append_assoc, append-nil}
-use lib.Dec.{ltb}
 use lib.ListN.{length, take, drop, set, length-append, length-drop, drop_of_length-le}
 use native.Mathlib.Numerals.{add-one}
-use Rattle.std.proofs.Common.{drop_at, drop-drop}
+use Rattle.std.specs.Fmt.{decimal as std_decimal, signed_decimal}
+use Rattle.std.proofs.Common.{drop_at, drop-drop, rules}
+use Rattle.std.proofs.lemmas.Fmt.{decimal_from_appends, length-decimal-le_succ, length-decimal-le, length_signed_le}
 use Rattle.std.proofs.lemmas.List.{set_split}
 use lib.Seq.{take_at, take_all, length-take-le}
 use borrow.Rule.Slice.PartMut.{put_mid}
-use lib.IntN.{ℤ, pos, negsuc, nat_abs}
-use lib.Signed.{le_z}
+use lib.IntN.{ℤ, pos, negsuc}
 use mir.Syntax.{w16}
 use mir.Val.{SFits}
-use Rattle.numbers.proofs.Widths.{level-size}
-use Rattle.panel_language.specs.Text.{space, minus, decimal_in, decimal, printed}
+use Rattle.panel_language.specs.Text.{minus, decimal_in, decimal, printed}
 use Rattle.panel_print.specs.Print.{Written}
 
 -- ---- decimal digits
-by-digit : (k n : ℕ) (b : Bool) → ltb n 10 ≡ b → decimal_in (suc k) n ≡ elim b [ true ↦ (48 + n) ∷ [] | false ↦ decimal_in k (n / 10) ++ ((48 + n % 10) ∷ []) ]
-unfolding decimal_in
-by-digit k n b e = ap (λ (b : Bool). elim b [ true ↦ (48 + n) ∷ [] | false ↦ decimal_in k (n / 10) ++ ((48 + n % 10) ∷ []) ]) e
+-- the text that `itoa` writes, in std's words, is that of the definitions
+pub decimal_is : (n : ℕ) → n < 2 ^ 64 → std_decimal n ≡ decimal n
+unfolding decimal decimal_in
+decimal_is n h = sym (decimal_from_appends decimal_in (search rules) (suc n) n h (omega (arith, length-decimal-le_succ n h)))
 
--- any k above n gives the same digits
-enough : (k j n : ℕ) → n < k → n < j → decimal_in k n ≡ decimal_in j n
-enough zero j n h l = absurd (omega arith)
-enough (suc k) zero n h l = absurd (omega arith)
-enough (suc k) (suc j) n h l = go (enough k j (n / 10)) (ltb n 10) refl
-  where
-    go : (n / 10 < k → n / 10 < j → decimal_in k (n / 10) ≡ decimal_in j (n / 10)) → (b : Bool) → ltb n 10 ≡ b → decimal_in (suc k) n ≡ decimal_in (suc j) n
-    go less true e = by-digit k n true e ∙ sym (by-digit j n true e)
-    go less false e =
-        let t : 10 ≤ n = ltb-false n 10 e in
-        by-digit k n false e ∙ ap (λ (l : List ℕ). l ++ ((48 + n % 10) ∷ [])) (less (omega arith) (omega arith)) ∙ sym (by-digit j n false e)
-
-pub decimal-one : (n : ℕ) → n < 10 → decimal n ≡ (48 + n) ∷ []
-unfolding decimal
-decimal-one n h = by-digit n n true (lt-ltb n 10 h)
-
-pub decimal-more : (n : ℕ) → 10 ≤ n → decimal n ≡ decimal (n / 10) ++ ((48 + n % 10) ∷ [])
-unfolding decimal
-decimal-more n h = by-digit n n false (le-ltb n 10 h) ∙ ap (λ (l : List ℕ). l ++ ((48 + n % 10) ∷ [])) (enough n (suc (n / 10)) (n / 10) (omega arith) (omega arith))
-
-pub length_more : (n : ℕ) → 10 ≤ n → length (decimal n) ≡ length (decimal (n / 10)) + 1
-length_more n h = ap length (decimal-more n h) ∙ length-append (decimal (n / 10)) ((48 + n % 10) ∷ [])
+pub printed_is : (v : ℤ) → SFits w16 v → signed_decimal v ≡ printed v
+unfolding printed
+printed_is (pos n) f = decimal_is n (omega (arith, f.sfits))
+printed_is (negsuc n) f = ap (λ l. minus ∷ l) (decimal_is (suc n) (omega (arith, f.sfits)))
 
 -- a number below 10 ^ k has at most k digits
-pub few-digits : (k n : ℕ) → n < 10 ^ suc k → length (decimal n) ≤ suc k
-few-digits zero n h = rw (decimal-one n (omega (arith, rw pow-suc at h))) (omega arith)
-few-digits (suc k) n h = go (few-digits k (n / 10)) (ltb n 10) refl
-  where
-    go : (n / 10 < 10 ^ suc k → length (decimal (n / 10)) ≤ suc k) → (b : Bool) → ltb n 10 ≡ b → length (decimal n) ≤ suc (suc k)
-    go less true e = rw (decimal-one n (ltb-true n 10 e)) (omega arith)
-    go less false e =
-        let p : n < 10 ^ suc k * 10 = rw pow-suc at h in
-        omega (arith, length_more n (ltb-false n 10 e), less (omega arith))
+pub few-digits : (k n : ℕ) → n < 10 ^ suc k → n < 2 ^ 64 → length (decimal n) ≤ suc k
+few-digits k n h l = rw (← decimal_is n l) (length-decimal-le (suc k) n (omega arith) h l)
 
-pub length-one : (n : ℕ) → n < 10 → length (decimal n) ≡ 1
-length-one n h = ap length (decimal-one n h)
+-- of 16 bits: five digits and a sign at most
+pub level-bytes : (v : ℤ) → SFits w16 v → length (printed v) ≤ 6
+level-bytes v f = rw (← printed_is v f) (length_signed_le 5 v (omega (arith, f.sfits)) (omega (arith, f.sfits)))
 
 -- ---- written in parts
 pub nothing : (old : List ℕ) → Written [] old old 0
@@ -109,32 +82,3 @@ module _ (xs old new : List ℕ) (count : ℕ) (w : Written xs old new count) wh
 
 pub written_is : (xs ys old new : List ℕ) (count : ℕ) → xs ≡ ys → Written xs old new count → Written ys old new count
 written_is xs ys old new count e w = subst (λ (l : List ℕ). Written l old new count) e w
-
--- ---- a number with its sign
-pub printed-plain : (v : ℤ) → le_z (pos 0) v ≡ true → printed v ≡ decimal (nat_abs v)
-unfolding printed
-printed-plain (pos n) e = refl
-printed-plain (negsuc n) e = let z : ◌≡◌ {A = ℕ} 0 1 = cc in absurd (omega arith)
-
-pub printed-signed : (v : ℤ) → le_z (pos 0) v ≡ false → printed v ≡ minus ∷ decimal (nat_abs v)
-unfolding printed
-printed-signed (pos n) e = absurd (omega (arith, leb-false 0 n e))
-printed-signed (negsuc n) e = refl
-
--- of 16 bits: five digits and a sign at most
-pub level-digits : (v : ℤ) → SFits w16 v → length (decimal (nat_abs v)) ≤ 5
-level-digits v f = few-digits 4 (nat_abs v) (omega (arith, level-size v f))
-
-pub level-bytes : (v : ℤ) → SFits w16 v → length (printed v) ≤ 6
-level-bytes v f = go (le_z (pos 0) v) refl
-  where
-    go : (b : Bool) → le_z (pos 0) v ≡ b → length (printed v) ≤ 6
-    go true e = rw (printed-plain v e) (omega (arith, level-digits v f))
-    go false e = rw (printed-signed v e) (omega (arith, level-digits v f))
-
--- ---- the line of a refusal
-abbrev pub word : List ℕ
-word = 114 ∷ 101 ∷ 102 ∷ 117 ∷ 115 ∷ 101 ∷ 100 ∷ space ∷ []
-
-pub word-written : (out copied : List ℕ) → copied ≡ word → Written word out (copied ++ drop 8 out) 8
-word-written out copied e = record { area = ap (λ l. l ++ drop 8 out) e; counted = refl }

@@ -107,12 +107,6 @@ line_first row old h =
     }
 
 module _ (row : List ℤ) (old new : List ℕ) (count k : ℕ) (u : LineUpto row old new count k) where
-  -- there is room for one number more
-  pub line-room : LineRoom row old → 7 ≤ length (take (length new - count) (drop count new))
-  line-room asked =
-      let w = u.rest.written in
-      omega (arith, room-after _ _ _ _ w, written-length _ _ _ _ w (omega (arith, asked.room, u.room, u.inside)), asked.room, u.room, u.inside)
-
   module _ (part : List ℕ) (n : ℕ) where
     pub line-more : k + 1 < length row → Written (printed (at row k) ++ (space ∷ [])) (take (length new - count) (drop count new)) part n → n ≤ 7
         → LineUpto row old (put_mid count (length new - count) new part) (count + n) (k + 1)
@@ -153,15 +147,6 @@ pub record LinesUpto (z : Size) (means : List ℤ) (old new : List ℕ) (count i
   pub inside : i ≤ z.rows
   pub room : count ≤ 7 * (i * z.columns)
   pub rest : Remaining (lines_of (value_at z.columns means) 0 z.rows z.columns) old (lines_of (value_at z.columns means) i (z.rows - i) z.columns) new count
-
-pub lines-first : (z : Size) (means : List ℤ) (old : List ℕ) → LinesUpto z means old old 0 0
-lines-first z means old =
-    let e : z.rows - 0 ≡ z.rows = omega arith in
-    record {
-      inside = omega arith;
-      room = omega arith;
-      rest = rw e (remaining-first _ old);
-    }
 
 module _ (z : Size) (means : List ℤ) (old new : List ℕ) (count i : ℕ) (asked : LinesRoom z means old) (u : LinesUpto z means old new count i) where
   pub count-inside : count ≤ length old

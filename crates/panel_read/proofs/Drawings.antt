@@ -7,11 +7,14 @@ use Rattle.std.specs.Int.{FitsUnsignedBits}
 use Rattle.std.specs.Result.{OkIff, result_unwrap_or}
 use Rattle.std.specs.Option.{ok_or}
 use native.Mathlib.Nat.{mul-le-mul}
+use mathlib.Core.Option.{some}
+use mathlib.Core.Bool.{not}
 use lib.Dec.{T, leb→le}
 use lib.Seq.{take_at, length-take-le}
 use borrow.Author.Tests.{le-ltb}
 use Rattle.picture.specs.Answers.{number}
-use Rattle.picture.specs.Refusal.{refused, answered}
+use Rattle.picture.specs.Refusal.{◌when◌, refusal, refused, answered}
+use Rattle.picture.specs.Conditions.{check3}
 use Rattle.picture.specs.declared.Refusal.{Refusal}
 use Rattle.picture.specs.declared.Refusal.TheVariants as line
 use Rattle.picture.specs.declared.Size.{Size}
@@ -118,6 +121,15 @@ framed-none z w = refl
 by-window : (z : Size) (w : Window) (l : List ℤ) (b : Bool) → window_legal w ≡ b → framed z w (Some l) ≡ elim b [ true ↦ answered (record { size = z; window = w; levels = l }) | false ↦ refused 3 ]
 unfolding framed
 by-window z w l b e = ap (λ (b : Bool). elim b [ true ↦ answered (record { size = z; window = w; levels = l }) | false ↦ refused 3 ]) e
+
+-- a window that check 3 refuses
+pub refused-beyond : (w : Window) (m : ℕ) → some m ≡ refusal (check3 w ∷ []) → (window_legal w ≡ false) × (m ≡ 3)
+unfolding refusal
+refused-beyond w m = go (window_legal w)
+  where
+    go : (b : Bool) → some m ≡ refusal ((3 when not b) ∷ []) → (b ≡ false) × (m ≡ 3)
+    go true h = cc
+    go false h = (refl, cc)
 
 -- ---- a legal size
 pub small-cells : (z : Size) → size_legal z ≡ true → cells z ≤ 262144

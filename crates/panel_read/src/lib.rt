@@ -57,7 +57,7 @@ fn read_window(numbers: &mut Numbers) -> Result<Window, Refusal>
     })
 }
 
-// The size and the window of the picture that the text asks for; its levels are the first of the area. As given and in no checked type, since
+// The size and the window of the picture that the text asks for; its levels are the first of the area, and the size says how many. As given and in no checked type, since
 // `smoothing::smooth`, for which they are read, checks what any caller gives.
 pub fn parse(text: &[u8], levels: &mut [i16]) -> Result<(Size, Window), Refusal>
     requires { 4096 ≤ length levels.old }
@@ -70,8 +70,6 @@ pub fn parse(text: &[u8], levels: &mut [i16]) -> Result<(Size, Window), Refusal>
     let size = read_size(&mut numbers)?;
     let window = read_window(&mut numbers)?;
     read_levels(&mut numbers, &mut levels[..size.rows * size.columns]).ok_or(Refusal::Text)?;
-    if !legal_windows::window_legal(window) {
-        return Err(Refusal::Window);
-    }
+    checks::check_window(window)?;
     Ok((size, window))
 }

@@ -93,7 +93,7 @@ lines-length f i (suc n) c s =
 
 refused-length : (n : ℕ) → n ≤ 10 → length (shown (refused n)) ≤ 28672
 unfolding shown
-refused-length n h = omega (arith, length-append (decimal n) (line_feed ∷ []), few-digits 1 n (omega arith))
+refused-length n h = omega (arith, length-append (decimal n) (line_feed ∷ []), few-digits 1 n (omega arith) (omega arith))
 
 module _ (d : Drawing) (l : Legal d) where
   abbrev means : List ℤ

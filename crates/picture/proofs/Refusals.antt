@@ -9,14 +9,14 @@ use lib.Dec.{T, leb, ltb, eqb, leb→le, ltb→lt, eqb→eq, eqb_refl, lt→ltb}
 use lib.ListN.{length}
 use lib.IntN.{ℤ}
 use Rattle.numbers.proofs.Tests.{off, and_left, and_right, and_both, of-not, not-of}
-use Rattle.picture.specs.Refusal.{Outcome, Check, ◌when◌, refused, answered, refusal, outcome, filling, numbers_of}
+use Rattle.picture.specs.Refusal.{Check, ◌when◌, refused, answered, refusal, outcome, filling, numbers_of}
 use Rattle.std.specs.Prelude as code
 use Rattle.std.specs.Prelude.{Result, Ok, Err, IsErrAnd}
 use Rattle.picture.specs.declared.Refusal.{Refusal}
-use Rattle.picture.specs.Answers.{number, refused_by, outcome_of, outcome_by, optional_outcome}
+use Rattle.picture.specs.Answers.{number, outcome_by}
 use Rattle.picture.specs.Window.{window_legal}
 use Rattle.picture.specs.declared.Size.{Size}
-use Rattle.picture.specs.Size.{size_legal, cells}
+use Rattle.picture.specs.Size.{size_legal, cells, Within}
 use Rattle.picture.specs.Picture.{Inputs, shift_legal}
 use Rattle.picture.specs.Shape.{is_shape}
 use Rattle.picture.specs.Conditions.{input_checks, accepted, check5, check6}
@@ -61,28 +61,6 @@ stop-all n [] after e = cc
 stop-all n ((m when true) ∷ rest) after e = e
 stop-all n ((m when false) ∷ rest) after e = stop-all n rest after e
 
--- a group of checks that refuses, and one that is passed
-pub refuses-here : (r : Result Unit Refusal) (e : Refusal) (before after : List Check) → some (number e) ≡ refusal before → IsErrAnd r (λ y. y ≡ e) → refused_by r ≡ refusal (before ++ after)
-refuses-here (Ok u) e before after h q = absurd q
-refuses-here (Err y) e before after h q = rw q (sym (stop-all (number e) before after (sym h)))
-
-pub passes-here : (n : Option ℕ) (before after : List Check) → none ≡ refusal before → n ≡ refusal after → n ≡ refusal (before ++ after)
-passes-here n before after h k = k ∙ sym (pass_all before after (sym h))
-
-pub stops-here : (n : ℕ) (before after : List Check) → some n ≡ refusal before → some n ≡ refusal (before ++ after)
-stops-here n before after h = sym (stop-all n before after (sym h))
-
--- a single check, by a test s of what it wants
-pub require-sound : (n : ℕ) (b : Bool) → b ≡ true → none ≡ refusal ((n when not b) ∷ [])
-unfolding refusal
-require-sound n true t = refl
-require-sound n false t = cc
-
-pub require-unsound : (n : ℕ) (b : Bool) → b ≡ false → some n ≡ refusal ((n when not b) ∷ [])
-unfolding refusal
-require-unsound n true t = cc
-require-unsound n false t = refl
-
 pub sound : (n : ℕ) (s b : Bool) → s ≡ b → none ≡ refusal ((n when not s) ∷ []) → T b
 sound n s b e h = rw (sym e) (of-not s (none-head n (not s) [] (sym h)))
 
@@ -91,18 +69,6 @@ pub unsound : (n : ℕ) (s : Bool) (m : ℕ) → some m ≡ refusal ((n when not
 unfolding refusal
 unsound n true m h = cc
 unsound n false m h = (tt, cc)
-
-pub line-refuses : (r : Result Unit Refusal) (e : Refusal) (n : ℕ) (s b : Bool) (rest : List Check) → s ≡ b → some (number e) ≡ refusal ((n when not s) ∷ []) → IsErrAnd r (λ y. y ≡ e) → refused_by r ≡ refusal ((n when not b) ∷ rest)
-line-refuses r e n s b rest t h q = rw (sym t) (refuses-here r e ((n when not s) ∷ []) rest h q)
-
-pub line-stops : (m n : ℕ) (s b : Bool) (rest : List Check) → s ≡ b → some m ≡ refusal ((n when not s) ∷ []) → some m ≡ refusal ((n when not b) ∷ rest)
-line-stops m n s b rest t h = rw (sym t) (stops-here m ((n when not s) ∷ []) rest h)
-
-pub line-passes : (m : Option ℕ) (n : ℕ) (s b : Bool) (rest : List Check) → s ≡ b → none ≡ refusal ((n when not s) ∷ []) → m ≡ refusal rest → m ≡ refusal ((n when not b) ∷ rest)
-line-passes m n s b rest t h k = rw (sym t) (passes-here m ((n when not s) ∷ []) rest h k)
-
-pub line-last : (m : Option ℕ) (n : ℕ) (s b : Bool) → s ≡ b → m ≡ refusal ((n when not s) ∷ []) → m ≡ refusal ((n when not b) ∷ [])
-line-last m n s b t h = rw (sym t) h
 
 -- the outcome
 pub outcome-none : {A : Type 0} (r : Option ℕ) (a : A) → r ≡ none → outcome r a ≡ answered a
@@ -160,15 +126,6 @@ pub none_after : (before after : List Check) → refusal (before ++ after) ≡ n
 none_after before after e = sym (pass_all before after (none_before before after e)) ∙ e
 
 -- ---- the answer
--- an `Err` that the code passes on says what its number says
-pub answers-refusal : {A : Type 0} (r : Result A Refusal) (e : Refusal) (o : Outcome A) → IsErrAnd r (λ y. y ≡ e) → refused (number e) ≡ o → outcome_of r ≡ o
-answers-refusal (Ok a) e o q h = absurd q
-answers-refusal (Err y) e o q h = rw q h
-
-pub optional-refusal : {A : Type 0} (r : Result (code.Option A) Refusal) (e : Refusal) (o : Outcome (Option A)) → IsErrAnd r (λ y. y ≡ e) → refused (number e) ≡ o → optional_outcome r ≡ o
-optional-refusal (Ok a) e o q h = absurd q
-optional-refusal (Err y) e o q h = rw q h
-
 pub filling-none : (r : Option ℕ) (old new : List ℤ) → r ≡ none → filling r old new ≡ record { answer = answered tt; area = new }
 unfolding filling
 filling-none none old new e = refl
@@ -262,21 +219,12 @@ direct-answers x i j e hi hj =
     ∙ pass 6 (not (ltb i z.rows && ltb j z.columns)) [] (cell-passes z i j hi hj)
     ∙ no-checks)
 
--- the direct call that is turned down, and the one that is taken
-pub direct-refused : (x : Inputs) (i j n : ℕ) → refusal (direct_checks x i j) ≡ some n → refused n ≡ direct_call x i j
-unfolding direct_call
-direct-refused x i j n e = sym (outcome-some (refusal (direct_checks x i j)) (direct_sum x i j) n e)
-
-pub record Inside (z : Size) (i j : ℕ) : Type 0 where
-  pub row : i < z.rows
-  pub column : j < z.columns
-
-pub cell-inside : (z : Size) (i j : ℕ) → not (ltb i z.rows && ltb j z.columns) ≡ false → Inside z i j
+pub cell-inside : (z : Size) (i j : ℕ) → not (ltb i z.rows && ltb j z.columns) ≡ false → Within z i j
 cell-inside z i j e =
     let t = of-not (ltb i z.rows && ltb j z.columns) e in
     record { row = ltb→lt i z.rows (and_left (ltb i z.rows) (ltb j z.columns) t); column = ltb→lt j z.columns (and_right (ltb i z.rows) (ltb j z.columns) t) }
 
-pub direct-taken : (x : Inputs) (i j : ℕ) → refusal (direct_checks x i j) ≡ none → accepted x × Inside x.source.size i j
+pub direct-taken : (x : Inputs) (i j : ℕ) → refusal (direct_checks x i j) ≡ none → accepted x × Within x.source.size i j
 direct-taken x i j taken =
     let z = x.source.size in (
       none_before (input_checks x) (check6 z i j ∷ []) taken,

@@ -1,4 +1,4 @@
--- "When a call is turned down": the numbered conditions 1 to 8, each a test on its inputs. (9 is in `statistics`, 10 in `panel_text`.)
+-- "When a call is turned down": the numbered conditions 1 to 8, each a test on its inputs. (9 is in `statistics`, 10 in `panel_language`.)
 -- Assumes nothing.
 use Rattle.std.specs.Prelude.{◌≡◌, ℕ, ◌-◌, not, ◌&&◌, ◌||◌, List, [], ◌∷◌, ◌++◌, ltb, eqb, length, ℤ}
 use Rattle.std.proofs.Math.Option.{none}

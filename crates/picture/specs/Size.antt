@@ -1,6 +1,6 @@
 -- The size of a picture, its cells, and how far apart its rows and its columns are.
 -- Assumes nothing.
-use Rattle.std.specs.Prelude.{ℕ, ◌*◌, Bool, false, ◌&&◌, leb, ltb, ℤ, pos, negsuc, nat_abs}
+use Rattle.std.specs.Prelude.{ℕ, ◌*◌, ◌<◌, Bool, false, ◌&&◌, leb, ltb, ℤ, pos, negsuc, nat_abs}
 use Rattle.numbers.specs.Sum.{dist}
 use Rattle.picture.specs.declared.Size.{Size}
 use Rattle.picture.specs.declared.Cell.{Cell}
@@ -18,6 +18,12 @@ size_legal z = leb 1 z.rows && leb z.rows 256 && leb 1 z.columns && leb z.column
 -- "rows times columns"
 abbrev pub cells : Size → ℕ
 cells z = z.rows * z.columns
+
+-- A cell of the picture. It stands in contracts, since it is said of a cell and of a size: a type that said it would hold both, or be made anew wherever the size
+-- stands in another type.
+pub record Within (z : Size) (i j : ℕ) : Type 0 where
+  pub row : i < z.rows
+  pub column : j < z.columns
 
 -- how far apart two rows, and two columns, of the picture are
 abbrev pub row_gap : Size → ℕ → ℕ → ℕ

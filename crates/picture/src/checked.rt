@@ -7,7 +7,8 @@ ghost use Rattle.picture.specs.Picture.{shift_legal, Levels};
 
 use crate::{Plane, Shape, Shift, Size};
 
-// A window that is legal.
+// A legal window: its shape, and its two numbers as the call gave them, which `legal_windows` and `shape` alone read. No enum with the numbers of each shape: `shape`
+// would tell three cases apart as it does now, and `given`, by which the contracts speak of a window, three more.
 #[derive(Clone, Copy)]
 pub struct CheckedWindow {
     pub shape: Shape,
@@ -29,7 +30,8 @@ pub struct CheckedPictures<'a> {
     pub ghost levels_g: { Levels g.now },
 }
 
-// Two pictures of a legal size, a legal shift, and a plane.
+// Two pictures of a legal size, a legal shift, and a plane. The fields of `CheckedPictures` once more, and no such field: every function reads them, and would reach
+// through one more name. Nor is a legal size a type of its own beside `Size`, which the definitions take.
 #[derive(Clone, Copy)]
 pub struct CheckedSource<'a> {
     pub size: Size,

@@ -59,37 +59,26 @@ pub struct Inputs<'a> {
     pub window: Window,
 }
 
-// Why a call is turned down: the lines of document 01's table of refusals.
-#[derive(Clone, Copy, Debug, PartialEq, Eq)]
+// Why a call is turned down: the lines of document 01's table of refusals, by their numbers, and in their order.
+#[derive(Clone, Copy, Debug, PartialEq, Eq, PartialOrd, Ord)]
 pub enum Refusal {
-    Size, // 1: rows or columns beyond limits
-    Length, // 2: a picture's length is not rows times columns
-    Window, // 3: shape not 1 to 3, or window numbers other than its shape allows
-    Shift, // 4: shift beyond limits
-    Plane, // 5: plane above 5
-    Cell, // 6: cell outside the picture
-    Position, // 7: position above rows, or request above rows minus position
-    Area, // 8: table, work or output area of another length
-    Sums, // 9: sums impossible
-    Text, // 10: panel's text malformed
+    Size = 1, // rows or columns beyond limits
+    Length = 2, // a picture's length is not rows times columns
+    Window = 3, // shape not 1 to 3, or window numbers other than its shape allows
+    Shift = 4, // shift beyond limits
+    Plane = 5, // plane above 5
+    Cell = 6, // cell outside the picture
+    Position = 7, // position above rows, or request above rows minus position
+    Area = 8, // table, work or output area of another length
+    Sums = 9, // sums impossible
+    Text = 10, // panel's text malformed
 }
 
-// The number of a refusal in the table: "Only the number comes back".
+// "Only the number comes back".
 impl From<Refusal> for u32 {
     ghost from_gives = { λ refusal n. n ≡ number refusal };
 
     fn from(refusal: Refusal) -> u32 {
-        match refusal {
-            Refusal::Size => 1,
-            Refusal::Length => 2,
-            Refusal::Window => 3,
-            Refusal::Shift => 4,
-            Refusal::Plane => 5,
-            Refusal::Cell => 6,
-            Refusal::Position => 7,
-            Refusal::Area => 8,
-            Refusal::Sums => 9,
-            Refusal::Text => 10,
-        }
+        refusal as u32
     }
 }

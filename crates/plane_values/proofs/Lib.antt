@@ -1,2 +1,1 @@
-pub mod ByPlane
 pub mod Filled

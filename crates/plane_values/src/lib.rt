@@ -1,4 +1,4 @@
-// The values of a plane at cells that all count, and a row filled with one number: one simple loop for each kind of value.
+// The values of a plane at the cells of a line, and a row filled with one number: one simple loop for each kind of value.
 // For callers that have checked their inputs.
 #![tactic(auto)]
 
@@ -6,7 +6,9 @@ ghost use Rattle.std.specs.Prelude.{◌≡◌, pos, ◌*ℤ◌, length, get_or};
 ghost use Rattle.numbers.specs.Grid.{tabulate};
 ghost use Rattle.picture.specs.Picture.{plane_value};
 ghost use Rattle.picture.specs.Plane.{plane_number};
+ghost use Rattle.lines.specs.Lines.{HasCells};
 
+use lines::Line;
 use picture::Plane;
 
 // Every number of out is the value.
@@ -24,7 +26,7 @@ fn widen(levels: &[i16], out: &mut [i64])
     ensures { out.new ≡ tabulate (length out.old) (λ k. get_or levels.now k (pos 0)) }
 {
     for k in 0..out.len() {
-        out[k] = levels[k] as i64;
+        out[k] = i64::from(levels[k]);
     }
 }
 
@@ -39,18 +41,18 @@ fn multiply(a: &[i16], b: &[i16], out: &mut [i64])
     }
 }
 
-// The plane's values where all cells count: a has the levels of f, and b those of g.
+// The plane's values at the cells of a line.
 #[tactic(auto, unfolding(picture::specs::Picture::plane_value))]
-pub fn values(plane: Plane, a: &[i16], b: &[i16], out: &mut [i64])
-    requires { (length a.now ≡ length out.old) × (length b.now ≡ length out.old) }
-    ensures { out.new ≡ tabulate (length out.old) (λ k. plane_value (plane_number plane) (get_or a.now k (pos 0)) (get_or b.now k (pos 0))) }
+pub fn values(plane: Plane, line: Line<'_>, out: &mut [i64])
+    requires { HasCells (length out.old) line }
+    ensures { out.new ≡ tabulate (length out.old) (λ k. plane_value (plane_number plane) (get_or line.entry.f.now k (pos 0)) (get_or line.entry.g.now k (pos 0))) }
 {
     match plane {
         Plane::One => fill(out, 1),
-        Plane::F => widen(a, out),
-        Plane::G => widen(b, out),
-        Plane::FSquared => multiply(a, a, out),
-        Plane::GSquared => multiply(b, b, out),
-        Plane::Product => multiply(a, b, out),
+        Plane::F => widen(line.f, out),
+        Plane::G => widen(line.g, out),
+        Plane::FSquared => multiply(line.f, line.f, out),
+        Plane::GSquared => multiply(line.g, line.g, out),
+        Plane::Product => multiply(line.f, line.g, out),
     }
 }

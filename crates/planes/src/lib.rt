@@ -21,7 +21,7 @@ fn padded(plane: Plane, line: Line<'_>, lo: usize, out: &mut [i64])
     let hi = lo + line.f.len();
     fill(&mut out[..lo], 0);
     fill(&mut out[hi..], 0);
-    values(plane, line.f, line.g, &mut out[lo..hi]);
+    values(plane, line, &mut out[lo..hi]);
 }
 
 // The cells (row, 0), (row, 1), .. of the plane, as many as out has room for.

@@ -2,7 +2,7 @@
 -- Assumes nothing.
 use Rattle.std.specs.Prelude.{ℕ, ◌-◌, ◌*◌, ◌/◌, ◌^◌, ◌≤◌, ◌<◌}
 
--- 2^64 over 2d, rounded down
+-- 2^64 - 1 over 2d, rounded down
 abbrev pub reciprocal : ℕ → ℕ
 reciprocal d = (2 ^ 64 - 1) / (2 * d)
 

@@ -1,4 +1,4 @@
-// How far a legal window goes to the sides in a row, and up and down in a column.
+// How far a legal window goes to the sides in a row, and up and down in a column: alike but not twins, since a diamond's or hexagon's columns end at its height.
 #![tactic(auto, unfolding(picture::specs::Window::window_legal, picture::specs::Window::shape_of, picture::specs::Window::height, picture::specs::Window::width, picture::specs::Window::reach, picture::specs::Window::depth))]
 
 ghost use Rattle.std.specs.Prelude.{◌≡◌};

@@ -3,7 +3,6 @@
 
 use picture::{Inputs, Refusal, Source};
 use std::io;
-use trial_cases::answers::{number, refusal};
 use trial_cases::faults;
 use trial_cases::faults::{Call, Fault, Operation};
 use trial_tools::random::Kind;
@@ -21,8 +20,12 @@ struct Lent {
 }
 
 impl Lent {
-    // The pictures are those of every call.
-    fn new(seed: u64) -> Lent {
+    // The pictures are those of every call, and each refusal has another work area.
+    fn new(wanted: Option<Refusal>) -> Lent {
+        let seed = match wanted {
+            Some(refusal) => u64::from(u32::from(refusal)),
+            None => 0,
+        };
         Lent {
             f: random::picture(40, 5),
             g: random::picture(40, 6),
@@ -33,19 +36,8 @@ impl Lent {
     }
 }
 
-// No refusal's number: of a row call that was refused and moved the position. No enum, since it stands where the tally is given a refusal's number.
-const MOVED: u64 = 98;
-
-// A number, since the trial prints numbers, 0 for a call that was taken.
-fn rows_refusal(answer: Result<usize, Refusal>, before: usize, after: usize) -> u64 {
-    if answer.is_err() && after != before {
-        return MOVED;
-    }
-    refusal(answer)
-}
-
-// An operation's call: the number by which it was refused, 0 where it was taken, and what it left of the areas.
-fn called(operation: Operation, c: Call, before: Lent) -> (u64, Lent) {
+// An operation's call: its refusal, none where it was taken, and what it left of the areas.
+fn called(operation: Operation, c: Call, before: Lent) -> (Option<Refusal>, Lent) {
     let Lent {
         mut work,
         mut out,
@@ -68,9 +60,9 @@ fn called(operation: Operation, c: Call, before: Lent) -> (u64, Lent) {
         window: c.window,
     };
     let refused = match operation {
-        Operation::DirectSum => refusal(direct::direct_sum(&inputs, c.cell)),
-        Operation::Build => refusal(table::build(&source, &mut out[..cells])),
-        Operation::Read => refusal(table::read(c.size, &out[..cells], c.window, c.cell)),
+        Operation::DirectSum => direct::direct_sum(&inputs, c.cell).err(),
+        Operation::Build => table::build(&source, &mut out[..cells]).err(),
+        Operation::Read => table::read(c.size, &out[..cells], c.window, c.cell).err(),
         Operation::Rows => {
             let mut position = c.position;
             let answer = rows::rows_at(
@@ -80,10 +72,11 @@ fn called(operation: Operation, c: Call, before: Lent) -> (u64, Lent) {
                 &mut work[..columns],
                 &mut out[..cells],
             );
-            rows_refusal(answer, c.position, position)
+            // A refusal that moved the position counts as none, which is not what is wanted.
+            answer.err().filter(|_| position == c.position)
         }
-        Operation::Smooth => refusal(smoothing::smooth(c.size, f, c.window, &mut smooth[..cells])),
-        Operation::Steady => refusal(smoothing::steady(c.size, f, g, c.window, c.shift)),
+        Operation::Smooth => smoothing::smooth(c.size, f, c.window, &mut smooth[..cells]).err(),
+        Operation::Steady => smoothing::steady(c.size, f, g, c.window, c.shift).err(),
     };
     let after = Lent {
         work,
@@ -95,11 +88,11 @@ fn called(operation: Operation, c: Call, before: Lent) -> (u64, Lent) {
 }
 
 // One call; where it is to be refused, the areas are to keep what they held.
-fn tried(operation: Operation, c: Call, wanted: u64, t: Tally) -> Tally {
+fn tried(operation: Operation, c: Call, wanted: Option<Refusal>, t: Tally) -> Tally {
     let before = Lent::new(wanted);
     let (refused, after) = called(operation, c, before);
     let seen = t.with(refused, wanted);
-    if wanted == 0 {
+    if wanted.is_none() {
         return seen;
     }
     seen.with_first(40, &after.work, &before.work)
@@ -129,21 +122,25 @@ const FAULTS: [Option<Refusal>; 9] = [
     Some(Refusal::Area),
 ];
 
-// The calls of one operation, and two faults of four forms each, that are to be refused so, or to be taken.
+// The calls of each operation with two faults of four forms each, that are to be refused so, or to be taken.
 fn by_refusal(wanted: Option<Refusal>) -> Tally {
     let mut t = Tally::default();
-    for k in 0..7776usize {
-        let operation = OPERATIONS[k % 6];
-        let one = FAULTS[k / 6 % 9].map(|refusal| Fault {
-            refusal,
-            form: k / 486 % 4,
-        });
-        let other = FAULTS[k / 54 % 9].map(|refusal| Fault {
-            refusal,
-            form: k / 1944 % 4,
-        });
-        if operation.expected(one, other) == wanted {
-            t = tried(operation, faults::made(one, other), number(wanted), t);
+    for last in 0..4usize {
+        for form in 0..4usize {
+            for other in &FAULTS {
+                let other = other.map(|refusal| Fault {
+                    refusal,
+                    form: last,
+                });
+                for one in &FAULTS {
+                    let one = one.map(|refusal| Fault { refusal, form });
+                    for operation in &OPERATIONS {
+                        if operation.expected(one, other) == wanted {
+                            t = tried(*operation, faults::made(one, other), wanted, t);
+                        }
+                    }
+                }
+            }
         }
     }
     t
@@ -151,12 +148,11 @@ fn by_refusal(wanted: Option<Refusal>) -> Tally {
 
 pub fn run(rt: &impl Print) -> io::Result<()> {
     println!(rt; "calls taken: {}", by_refusal(None))?;
-    for refusal in &FAULTS[1..] {
-        println!(rt;
-            "calls refused by {}: {}",
-            number(*refusal),
-            by_refusal(*refusal)
-        )?;
+    for fault in &FAULTS {
+        if let Some(refusal) = *fault {
+            let number = u32::from(refusal);
+            println!(rt; "calls refused by {number}: {}", by_refusal(Some(refusal)))?;
+        }
     }
     Ok(())
 }

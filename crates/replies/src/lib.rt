@@ -9,7 +9,7 @@
 // The status is 0 where the call was answered; else the number of its refusal, 1 to 9, or that of an answer with no value. At every status
 // but 0 nothing is written: areas, results and position keep their bytes. (A text that panel refuses is answered: the line that says so is
 // what panel prints.)
-#![tactic(auto)]
+#![tactic(auto, unfolding(crate::specs::Reply::status, crate::specs::Reply::result_or, crate::specs::Reply::reply))]
 
 ghost use Rattle.std.specs.Prelude.{◌≡◌, pos};
 ghost use Rattle.picture.specs.Answers.{number, outcome_of, optional_outcome};
@@ -36,7 +36,7 @@ pub fn refused(refusal: Refusal) -> i32
     u32::from(refusal) as i32
 }
 
-// The status of a call that has no value to hand back.
+// The status of a call that has no value to hand back. Not `hand_back` of `()`, which would want a place for nothing.
 pub fn done(answer: Result<(), Refusal>) -> i32
     ensures { result ≡ status (reply with_value (outcome_of answer)) }
 {
@@ -66,13 +66,11 @@ pub fn hand_back_or<T: Copy>(answer: Result<Option<T>, Refusal>, none: i32, plac
     ensures value { place.new ≡ result_or place.old (reply (of_option none) (optional_outcome answer)) }
 {
     match answer {
-        Ok(found) => match found {
-            Some(value) => {
-                *place = value;
-                0
-            }
-            None => none,
-        },
+        Ok(Some(value)) => {
+            *place = value;
+            0
+        }
+        Ok(None) => none,
         Err(refusal) => refused(refusal),
     }
 }

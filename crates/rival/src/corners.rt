@@ -1,5 +1,6 @@
 // The rival's reading of a table with any contents: four corners, "with sums that wrap at 64 bits".
 use crate::{height, reach, total};
+use picture::Cell;
 use std::ops::Range;
 use trial_cases::cases::{Case, Shape};
 use trial_tools::areas;
@@ -26,7 +27,7 @@ impl<'a> Table<'a> {
             columns.min(c.columns).checked_sub(1),
         );
         match last {
-            (Some(row), Some(column)) => areas::read(self.entries, c.place(row, column)),
+            (Some(row), Some(column)) => areas::read(self.entries, c.place(Cell { row, column })),
             _ => 0,
         }
     }
@@ -42,22 +43,25 @@ impl<'a> Table<'a> {
         inner.wrapping_sub(outer)
     }
 
-    // The one-row rectangle of row m in a diamond or hexagon on (i, j).
-    fn row(&self, i: usize, j: usize, m: usize) -> i64 {
+    // The one-row rectangle of row m in a diamond or hexagon on a cell.
+    fn row(&self, on: Cell, m: usize) -> i64 {
         let c = self.case;
-        let p = m.abs_diff(i);
+        let p = m.abs_diff(on.row);
         if p > height(c) {
             return 0;
         }
-        self.rectangle(around(m, 0), around(j, reach(c).saturating_sub(p)))
+        self.rectangle(around(m, 0), around(on.column, reach(c).saturating_sub(p)))
     }
 
-    // The window's sum on (i, j): "A diamond or hexagon is read as one-row rectangles."
-    pub fn reading(&self, i: usize, j: usize) -> i64 {
+    // The window's sum on a cell: "A diamond or hexagon is read as one-row rectangles."
+    pub fn reading(&self, on: Cell) -> i64 {
         let c = self.case;
         match c.shape {
-            Shape::Rectangle => self.rectangle(around(i, c.first), around(j, c.second)),
-            _ => total(c.rows, |m| self.row(i, j, m)),
+            Shape::Rectangle => self.rectangle(
+                around(on.row, c.first),
+                around(on.column, c.second),
+            ),
+            _ => total(c.rows, |m| self.row(on, m)),
         }
     }
 }

@@ -1,7 +1,7 @@
 // The rival: sums straight from document 01's definitions, each cell of the picture asked whether it belongs.
 #![tactic(auto)]
 
-use picture::{Inputs, Source};
+use picture::{Cell, Inputs, Source};
 use trial_cases::cases::{Case, Pictures, Plane, Shape};
 use trial_tools::areas;
 
@@ -31,10 +31,10 @@ fn reach(c: Case) -> usize {
     }
 }
 
-// Whether the window on (i, j) holds the cell (m, n).
-fn holds(c: Case, i: usize, j: usize, m: usize, n: usize) -> bool {
-    let p = m.abs_diff(i);
-    let q = n.abs_diff(j);
+// Whether the window on a cell holds another.
+fn holds(c: Case, on: Cell, cell: Cell) -> bool {
+    let p = cell.row.abs_diff(on.row);
+    let q = cell.column.abs_diff(on.column);
     match c.shape {
         Shape::Rectangle => p <= c.first && q <= c.second,
         _ => p <= height(c) && p.saturating_add(q) <= reach(c),
@@ -96,31 +96,32 @@ impl<'a> Given<'a> {
         }
     }
 
-    // "A cell (m, n) counts when it and (m+u, n+v) are both inside the picture." "At every other cell it is 0." The column n is inside.
+    // "A cell (m, n) counts when it and (m+u, n+v) are both inside the picture." "At every other cell it is 0." The column is inside.
     // One `match`, since both have to be inside: with `?` it would give an Option, which every caller had to open.
-    fn value(&self, m: usize, n: usize) -> i64 {
+    fn value(&self, cell: Cell) -> i64 {
         let c = self.case;
         let to = (
-            shifted(m, c.shift.down, c.rows),
-            shifted(n, c.shift.right, c.columns),
+            shifted(cell.row, c.shift.down, c.rows),
+            shifted(cell.column, c.shift.right, c.columns),
         );
         match to {
-            (Some(row), Some(column)) if m < c.rows => plane_value(
+            (Some(row), Some(column)) if cell.row < c.rows => plane_value(
                 c.plane,
-                areas::read(self.f, c.place(m, n)),
-                areas::read(self.g, c.place(row, column)),
+                areas::read(self.f, c.place(cell)),
+                areas::read(self.g, c.place(Cell { row, column })),
             ),
             _ => 0,
         }
     }
 
-    // "the sum of the plane over the window" that sits on (i, j)
-    pub fn sum(&self, i: usize, j: usize) -> i64 {
+    // "the sum of the plane over the window" that sits on a cell
+    pub fn sum(&self, on: Cell) -> i64 {
         let c = self.case;
-        total(c.rows, |m| {
-            total(c.columns, |n| {
-                if holds(c, i, j, m, n) {
-                    self.value(m, n)
+        total(c.rows, |row| {
+            total(c.columns, |column| {
+                let cell = Cell { row, column };
+                if holds(c, on, cell) {
+                    self.value(cell)
                 } else {
                     0
                 }
@@ -129,34 +130,34 @@ impl<'a> Given<'a> {
     }
 
     // The sum of a case that differs.
-    fn sum_of(&self, case: Case, i: usize, j: usize) -> i64 {
-        Given { case, ..*self }.sum(i, j)
+    fn sum_of(&self, case: Case, on: Cell) -> i64 {
+        Given { case, ..*self }.sum(on)
     }
 
     // The sum of another plane.
-    pub fn plane_sum(&self, plane: Plane, i: usize, j: usize) -> i64 {
+    pub fn plane_sum(&self, plane: Plane, on: Cell) -> i64 {
         let c = self.case;
-        self.sum_of(Case { plane, ..c }, i, j)
+        self.sum_of(Case { plane, ..c }, on)
     }
 
     // "T(i, j) = the plane's sum over all (p, q) with p ≤ i and q ≤ j": over the rectangle of these numbers on (0, 0).
-    pub fn entry(&self, i: usize, j: usize) -> i64 {
+    pub fn entry(&self, last: Cell) -> i64 {
         let c = self.case;
         let rectangle = Case {
             shape: Shape::Rectangle,
-            first: i,
-            second: j,
+            first: last.row,
+            second: last.column,
             ..c
         };
-        self.sum_of(rectangle, 0, 0)
+        self.sum_of(rectangle, Cell { row: 0, column: 0 })
     }
 
     // A rectangle's column sum over rows i-a to i+a; a diamond's or hexagon's window sum.
-    pub fn work(&self, i: usize, j: usize) -> i64 {
+    pub fn work(&self, cell: Cell) -> i64 {
         let c = self.case;
         match c.shape {
-            Shape::Rectangle => self.sum_of(Case { second: 0, ..c }, i, j),
-            _ => self.sum(i, j),
+            Shape::Rectangle => self.sum_of(Case { second: 0, ..c }, cell),
+            _ => self.sum(cell),
         }
     }
 }

@@ -1,5 +1,6 @@
 // The rival's row session: numbers by their definition, and from foreign work areas by the recurrence, each cell asked for.
 use crate::{Given, height, reach, total};
+use picture::Cell;
 use trial_cases::cases::{Case, Shape};
 use trial_tools::areas;
 
@@ -21,9 +22,10 @@ impl<'a> Begun<'a> {
     // outside the picture gives 0."
     fn exchanged(&self, i: usize, d: usize, n: usize) -> i64 {
         let given = self.given;
-        let entered = given.value(i.saturating_add(1).saturating_add(d), n);
+        let value = |row| given.value(Cell { row, column: n });
+        let entered = value(i.saturating_add(1).saturating_add(d));
         match i.checked_sub(d) {
-            Some(above) => entered.wrapping_sub(given.value(above, n)),
+            Some(above) => entered.wrapping_sub(value(above)),
             None => entered,
         }
     }
@@ -45,38 +47,39 @@ impl<'a> Begun<'a> {
         (from..to).fold(number, |s, i| s.wrapping_add(self.change(i, j)))
     }
 
-    // The number of the work area at column j after row i: by its definition in a session begun fresh, and in row 0, where the work area
-    // is not read; else by the recurrence.
-    pub fn work(&self, i: usize, j: usize) -> i64 {
+    // The number of the work area at a cell's column after its row: by its definition in a session begun fresh, and in row 0, where the work area is not read; else
+    // by the recurrence.
+    pub fn work(&self, cell: Cell) -> i64 {
         let given = self.given;
         let Some(position) = self.foreign else {
-            return given.work(i, j);
+            return given.work(cell);
         };
+        let j = cell.column;
         match position.checked_sub(1) {
-            Some(before) => self.moved(before, i, j, areas::read(self.area, j)),
-            None => self.moved(0, i, j, given.work(0, j)),
+            Some(before) => self.moved(before, cell.row, j, areas::read(self.area, j)),
+            None => self.moved(0, cell.row, j, given.work(Cell { row: 0, column: j })),
         }
     }
 
     // "the wrapped sum of the new work area over columns j-b to j+b inside the picture"
-    fn across(&self, i: usize, j: usize) -> i64 {
+    fn across(&self, on: Cell) -> i64 {
         let c = self.given.case;
-        total(c.columns, |n| {
-            if n.abs_diff(j) > c.second {
+        total(c.columns, |column| {
+            if column.abs_diff(on.column) > c.second {
                 0
             } else {
-                self.work(i, n)
+                self.work(Cell { column, ..on })
             }
         })
     }
 
-    // The output number of row i at column j; "for the others .. the new work area".
-    pub fn output(&self, i: usize, j: usize) -> i64 {
+    // The output number at a cell; "for the others .. the new work area".
+    pub fn output(&self, cell: Cell) -> i64 {
         let given = self.given;
         match (self.foreign, given.case.shape) {
-            (None, _) => given.sum(i, j),
-            (Some(_), Shape::Rectangle) => self.across(i, j),
-            _ => self.work(i, j),
+            (None, _) => given.sum(cell),
+            (Some(_), Shape::Rectangle) => self.across(cell),
+            _ => self.work(cell),
         }
     }
 }

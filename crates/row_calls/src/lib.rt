@@ -1,5 +1,5 @@
 // The row call on a plain position: its checks, and the sums of the next rows.
-#![tactic(auto)]
+#![tactic(auto, unfolding(picture::specs::Refusal::refusal, picture::specs::Refusal::outcome, session::specs::Rows::row_call, session::specs::Rows::row_result))]
 
 ghost use Rattle.std.specs.Prelude.{◌≡◌};
 ghost use Rattle.picture.specs.Refusal.{refusal, outcome};

@@ -4,9 +4,8 @@ use mathlib.Core.Path.{◌≡◌, sym, ◌∙◌, ap, subst}
 use mathlib.Core.Bool.{false}
 use mathlib.Core.List.{List}
 use mathlib.Core.Option.{Option, none, some}
-use Prim.Native.Nat.{ℕ, ◌+◌, ◌-◌, ◌*◌, ◌%◌, ◌≤◌, ◌<◌}
+use Prim.Native.Nat.{ℕ, ◌+◌, ◌-◌, ◌*◌, ◌≤◌, ◌<◌}
 use native.Mathlib.Omega.{arith}
-use native.Mathlib.Nat.{add-mod_right}
 use native.Mathlib.Decide.{dec_lt}
 use lib.IntN.{ℤ}
 use Rattle.picture.specs.declared.Cell.{Cell}
@@ -15,8 +14,7 @@ use Rattle.picture.specs.Picture.{Inputs}
 use Rattle.picture.proofs.Found.{Checked}
 use Rattle.statistics.specs.SixSums.{on_plane, impossible}
 use Rattle.smoothed.specs.Steady.{find_cell}
-use Rattle.blocks.specs.Blocks.{ready, rows_in, Block, RowSums}
-use Rattle.blocks.proofs.RowSums.{block_of}
+use Rattle.blocks.specs.Blocks.{rows_in, Block}
 use Rattle.hearing.proofs.Searching.{no_row}
 use Rattle.hearing.specs.Hearing.{sums_at, steady_in}
 use Rattle.search.proofs.Voices.{rows-possible, rows-steady}
@@ -28,13 +26,13 @@ pub record Blocks (x : Inputs) (i : ℕ) (counts totals squares n s a : List ℤ
   pub summed : Block (on_plane x 1) i totals s
   pub squared : Block (on_plane x 3) i squares a
 
--- they come with the sums of their first row; y, z and q are x on the three planes, as the code has it
-pub blocks-at : (x y z q : Inputs) → y ≡ on_plane x 0 → z ≡ on_plane x 1 → q ≡ on_plane x 3 → (i : ℕ) → i % 16 ≡ 0 → (counts totals squares n s a : List ℤ) →
-    RowSums y i counts n → RowSums z i totals s → RowSums q i squares a → Blocks x i counts totals squares n s a
-blocks-at x y z q ey ez eq i start counts totals squares n s a ry rz rq = record {
-  counted = subst (λ (x : Inputs). Block x i counts n) ey (block_of y i start counts n ry);
-  summed = subst (λ (x : Inputs). Block x i totals s) ez (block_of z i start totals s rz);
-  squared = subst (λ (x : Inputs). Block x i squares a) eq (block_of q i start squares a rq);
+-- y, z and q are x on the three planes, as the code has it
+pub blocks-at : (x y z q : Inputs) → y ≡ on_plane x 0 → z ≡ on_plane x 1 → q ≡ on_plane x 3 → (i : ℕ) (counts totals squares n s a : List ℤ) →
+    Block y i counts n → Block z i totals s → Block q i squares a → Blocks x i counts totals squares n s a
+blocks-at x y z q ey ez eq i counts totals squares n s a by bz bq = record {
+  counted = subst (λ (x : Inputs). Block x i counts n) ey by;
+  summed = subst (λ (x : Inputs). Block x i totals s) ez bz;
+  squared = subst (λ (x : Inputs). Block x i squares a) eq bq;
 }
 
 module _ (x : Inputs) (c : Checked x) (i m : ℕ) (below : i < x.source.size.rows) (m-is : m ≡ rows_in x i) where
@@ -62,12 +60,6 @@ module _ (x : Inputs) (c : Checked x) (i m : ℕ) (below : i < x.source.size.row
       go (no h) =
           let last : x.source.size.rows ≤ i + m = omega (arith, h, m-is) in
           no_row (steady_at x) x.source.size.columns (i + m) x.source.size.rows last ∙ sym (no_row (steady_at x) x.source.size.columns (i + 16) x.source.size.rows (omega (arith, h)))
-
-  pub start-behind : i % 16 ≡ 0 → (i + 16) % 16 ≡ 0
-  start-behind e = add-mod_right i 16 ∙ e
-
-  pub ready-behind : (k : ℕ) (work block : List ℤ) → Block (on_plane x k) i work block → i + 16 < x.source.size.rows → ready (on_plane x k) (i + 16) work
-  ready-behind k work block b h = subst (λ (r : ℕ). ready (on_plane x k) (i + r) work) (sym m-is ∙ full h) b.left
 
   module _ (counts totals squares n s a : List ℤ) (b : Blocks x i counts totals squares n s a) where
     pub possible : (r j : ℕ) → r < m → j < x.source.size.columns → impossible (sums_at n s a (r * x.source.size.columns + j)) ≡ false

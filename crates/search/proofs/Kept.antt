@@ -1,7 +1,7 @@
 -- What the search keeps from block to block. Assumes nothing.
 use mathlib.Core.Path.{◌≡◌}
 use mathlib.Core.List.{List}
-use Prim.Native.Nat.{ℕ, ◌-◌, ◌*◌, ◌%◌, ◌<◌}
+use Prim.Native.Nat.{ℕ, ◌-◌, ◌*◌, ◌<◌}
 use lib.ListN.{length}
 use lib.IntN.{ℤ}
 use Rattle.picture.specs.Picture.{Inputs}
@@ -13,7 +13,6 @@ use Rattle.search.proofs.Searching.{steady_at}
 -- before row i, where a block begins if rows are left
 pub record Before (x : Inputs) (counts totals squares n s a : List ℤ) (i : ℕ) : Type 0 where
   pub same : find_cell (steady_at x) x.source.size.columns i (x.source.size.rows - i) ≡ first_steady x
-  pub start : i % 16 ≡ 0
   pub ready_counts : i < x.source.size.rows → ready (on_plane x 0) i counts
   pub ready_totals : i < x.source.size.rows → ready (on_plane x 1) i totals
   pub ready_squares : i < x.source.size.rows → ready (on_plane x 3) i squares

@@ -1,4 +1,5 @@
--- What the search row by row asks.
+-- What the search asks, block by block.
+-- Room is asked in each contract, for the reason at `areas/specs/Asked`.
 -- Assumes nothing.
 use Rattle.std.specs.Prelude.{◌≡◌, ◌*◌, List, length, ℤ}
 use Rattle.picture.specs.Picture.{Inputs}

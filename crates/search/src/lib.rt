@@ -44,8 +44,8 @@ fn by_blocks(
     None
 }
 
-// The whole, with the room on the stack, since there is no heap. The arrays are no struct: `by_blocks` would lend two of its fields to a call,
-// and the check refuses what is lent as `&mut` behind a `&mut` that is lent itself. It was tried.
+// The whole, with the room on the stack, since there is no heap. The arrays are no struct: `by_blocks` lends two of them to one call,
+// and two arrays behind a `&mut` to a struct were refused there when it was tried.
 pub fn whole(inputs: &CheckedInputs<'_>) -> Option<Cell>
     ensures { option_of result ≡ first_steady (checked_inputs inputs.now) }
 {

@@ -1,11 +1,10 @@
 // Row sessions beside the rival's: lists of calls from a fresh session, and from foreign positions and work areas.
 #![tactic(auto)]
 
-use picture::Refusal;
+use picture::{Cell, Refusal};
 use rival::Given;
 use rival::recurrence::Begun;
 use std::io;
-use trial_cases::answers::{number, refusal};
 use trial_cases::cases::Case;
 use trial_cases::places;
 use trial_tools::tally::Tally;
@@ -133,13 +132,17 @@ fn granted(given: Given, fresh: bool, request: usize, before: &Stand) -> Stand {
         area: &before.work,
         foreign: (!fresh).then_some(position),
     };
-    for (j, number) in after.work.iter_mut().enumerate().take(c.columns) {
-        *number = begun.work(end.saturating_sub(1), j);
+    let row = end.saturating_sub(1);
+    for (column, number) in after.work.iter_mut().enumerate().take(c.columns) {
+        *number = begun.work(Cell { row, column });
     }
     let cells = request.saturating_mul(c.columns);
     for (k, number) in after.out.iter_mut().enumerate().take(cells) {
         let cell = c.cell(k);
-        *number = begun.output(position.saturating_add(cell.row), cell.column);
+        *number = begun.output(Cell {
+            row: position.saturating_add(cell.row),
+            ..cell
+        });
     }
     after
 }
@@ -149,7 +152,7 @@ fn call(given: Given, fresh: bool, a: Asked, before: Stand, t: Tally) -> (Stand,
     let c = given.case;
     let (answer, after) = called(given, a, before);
     let refused = refused(c, before.position, a);
-    let seen = t.with(refusal(answer), number(refused));
+    let seen = t.with(answer.err(), refused);
     let (wanted, counted) = match refused {
         Some(_) => (before, seen),
         None => (

@@ -1,5 +1,5 @@
-// A legal window: whether it is a rectangle, and how far it goes up and down, and to the sides. With the checks and `reaches`, the only code that knows what a
-// shape is.
+// A legal window: whether it is a rectangle, and how far it goes up and down, and to the sides. With the checks, the only code that knows what the
+// numbers of a shape say; others ask whether it is a rectangle, where rectangles go another way.
 #![tactic(auto, unfolding(picture::specs::Window::window_legal, picture::specs::Window::shape_of, picture::specs::Window::height, picture::specs::Window::width))]
 
 ghost use Rattle.std.specs.Prelude.{◌≡◌};

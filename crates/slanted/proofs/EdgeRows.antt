@@ -17,13 +17,14 @@ use Rattle.numbers.specs.Wrap.{wrap}
 use Rattle.numbers.proofs.Grids.{tabulate-cong, get_d_tabulate, length-tabulate}
 use Rattle.numbers.proofs.Sums.{sum-suc, sum-cong, sum-split, pick_yes, pick_no}
 use Rattle.numbers.proofs.Wraps.{wrap-add, wrap-add-right, wrap-fits, sfits-wrap}
-use Rattle.numbers.proofs.Writes.{at, at-past, is-tabulate, tabulate-at, part-before, part-within, part-after, part_length, slice_at}
+use Rattle.numbers.proofs.Writes.{at, is-tabulate, tabulate-at, part-before, part-within, part-after, part_length, slice_at}
 use Rattle.picture.specs.declared.Size.{Size}
 use Rattle.picture.specs.Window.{Shape, Slanted, slanted, width, depth}
 use Rattle.session.specs.Rows.{enter_leave, work_change, work_after}
 use Rattle.session.specs.Distances.{at_distance}
 use Rattle.session.proofs.Distances.{at-distance-some, near-distances}
 use Rattle.slanted.specs.Edges.{edge_change, edges_to}
+use Rattle.std.proofs.lemmas.List.{get_or_past}
 
 wrap-twice : (x : ℤ) → wrap (wrap x) ≡ wrap x
 wrap-twice x = wrap-fits (wrap x) (sfits-wrap x)
@@ -154,7 +155,7 @@ module _ (z : Size) (P : ℕ → ℕ → ℤ) (s : Shape) (i : ℕ) (work : List
       go : Dec (j < z.columns) → wrap (at now j) ≡ at now j
       go (yes h) = ap wrap (at-later start n j now e h) ∙ wrap-twice _ ∙ sym (at-later start n j now e h)
       go (no h) =
-          let v : at now j ≡ pos 0 = at-past now j (omega (arith, later-length start n now e)) in
+          let v : at now j ≡ pos 0 = get_or_past now j (pos 0) (omega (arith, later-length start n now e)) in
           ap wrap v ∙ wrap-zero ∙ sym v
 
   pub later-all : (start : List ℤ) (n : ℕ) (now : List ℤ) → start ≡ added 1 → 1 ≤ n → now ≡ later start (n - 1) → now ≡ added n

@@ -1,4 +1,5 @@
 -- What a slanted window's row step asks of its inputs.
+-- Room is asked in each contract, for the reason at `areas/specs/Asked`.
 -- Assumes nothing.
 use Rattle.std.specs.Prelude.{◌≡◌, ℕ, ◌≤◌, ◌<◌, List, get_or, ℤ, pos}
 use Rattle.numbers.specs.Wrap.{wrap}

@@ -1,4 +1,5 @@
--- Rows of a plane among zeros, and the slopes of a window's edges as the code keeps them: 1536 numbers each, the picture's column 0 at place 256.
+-- Rows of a plane among zeros, and the slopes of a window's edges as the code keeps them: 1536 numbers each. In a row the picture's column 0 stands at place 256;
+-- the place of a slope shifts from row to row. The length is asked of each, since the laws are of lists, which do not know that they stand in an array.
 -- Assumes nothing.
 use Rattle.std.specs.Prelude.{◌≡◌, ℕ, ◌+◌, ◌≤◌, ◌<◌, List, length, get_or, ℤ, pos, ◌+ℤ◌, ◌-ℤ◌}
 use Rattle.std.specs.Int.Signed.{mag}

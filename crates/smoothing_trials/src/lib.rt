@@ -7,38 +7,38 @@ use std::io;
 use trial_cases::cases::{Case, Plane};
 use trial_cases::places;
 use trial_tools::areas;
+use trial_tools::areas::CELLS;
 use trial_tools::tally::Tally;
 
 // The rival's mean at a cell of one picture.
-fn mean(given: Given, i: usize, j: usize) -> i64 {
-    let n = given.plane_sum(Plane::One, i, j);
-    let s = given.plane_sum(Plane::F, i, j);
+fn mean(given: Given, cell: Cell) -> i64 {
+    let n = given.plane_sum(Plane::One, cell);
+    let s = given.plane_sum(Plane::F, cell);
     moments::mean(n, s)
 }
 
 // One picture smoothed, and compared at every cell. The output is an array as long as those of the pictures: the trials have no heap.
 fn smooth(given: Given, t: Tally) -> Tally {
     let c = given.case;
-    let cells = c.cells().min(32768);
-    let mut out = [0i16; 32768];
+    let cells = c.cells().min(CELLS);
+    let mut out = [0i16; CELLS];
     let answer = smoothing::smooth(c.size(), given.f, c.window(), &mut out[..cells]);
-    let begun = t.with(trial_cases::answers::refusal(answer), 0);
+    let begun = t.with(answer.err(), None);
     (0..cells).fold(begun, |t, k| {
-        let Cell { row: i, column: j } = c.scattered(k);
-        let ours = areas::read(&out, c.place(i, j));
-        t.with(i64::from(ours), mean(given, i, j))
+        let cell = c.scattered(k);
+        let ours = areas::read(&out, c.place(cell));
+        t.with(i64::from(ours), mean(given, cell))
     })
 }
 
 // Whether the cell is Steady: N is not 0, and Vf is.
 fn is_steady(given: Given, cell: Cell) -> bool {
-    let Cell { row: i, column: j } = cell;
-    let n = given.plane_sum(Plane::One, i, j);
+    let n = given.plane_sum(Plane::One, cell);
     if n == 0 {
         return false;
     }
-    let s = given.plane_sum(Plane::F, i, j);
-    let a = given.plane_sum(Plane::SquareF, i, j);
+    let s = given.plane_sum(Plane::F, cell);
+    let a = given.plane_sum(Plane::SquareF, cell);
     moments::central(n, a, s, s) == 0
 }
 
@@ -50,22 +50,16 @@ fn first_steady(given: Given) -> Option<Cell> {
         .map(|k| c.cell(k))
 }
 
-// What a search found, by its place, and by the number of cells where there is none: a tally compares numbers.
+// What a search found, by its place, and by the number of cells where there is none. One number, as each search is one comparison, whose number the checksum takes.
 fn place(c: Case, found: Option<Cell>) -> usize {
-    match found {
-        Some(cell) => c.place(cell.row, cell.column),
-        None => c.cells(),
-    }
+    found.map_or(c.cells(), |cell| c.place(cell))
 }
 
-// The library's search beside the rival's; no place at all where it refuses.
+// The library's search beside the rival's; where it refuses a number that is no place's, for the same reason.
 fn steady(given: Given, t: Tally) -> Tally {
     let c = given.case;
     let answer = smoothing::steady(c.size(), given.f, given.g, c.window(), c.shift);
-    let ours = match answer {
-        Ok(found) => place(c, found),
-        Err(_) => 4294967296,
-    };
+    let ours = answer.map_or(usize::MAX, |found| place(c, found));
     t.with(ours, place(c, first_steady(given)))
 }
 
@@ -76,8 +70,7 @@ struct Tallies {
     steady: Tally,
 }
 
-// One case: its pictures made; one picture alone is smoothed. A group has `of_case` and `of_cases` of its own, as it has its own tallies: one for all would
-// take both by a type parameter and a closure, for these few lines.
+// One case: its pictures made; one picture alone is smoothed. `of_cases` is a `fold` of std, which each group calls over its own cases.
 fn of_case(case: Case, t: Tallies) -> Tallies {
     let pictures = case.pictures();
     let given = Given::new(case, &pictures);

@@ -13,16 +13,6 @@ use Rattle.statistics.specs.declared.CentralMoments.{CentralMoments}
 use Rattle.statistics.specs.SixSums.{impossible, unless9, count, no_cell}
 use Rattle.statistics.specs.Moments.{unless_empty}
 use Rattle.statistics.specs.Central.{central_moments, central_call}
-use Rattle.std.specs.Prelude as code
-use Rattle.std.specs.Prelude.{Result, Ok, Err, IsErrAnd}
-use Rattle.picture.specs.declared.Refusal.{Refusal}
-use Rattle.picture.specs.Answers.{number, optional_outcome}
-use Rattle.picture.proofs.Refusals.{optional-refusal}
-use Rattle.statistics.specs.declared.Voice as declared
-use Rattle.statistics.specs.declared.Coefficient as correlation
-use Rattle.statistics.specs.Voice.{Voice}
-use Rattle.statistics.specs.Coefficient.{Coefficient}
-use Rattle.statistics.specs.Answers.{voice_outcome, coefficient_outcome}
 use Rattle.statistics.proofs.Bounds.{Possible, possible-has, answers, refuses}
 
 -- ---- "Mean, variance and deviation answer Empty when N = 0"
@@ -56,10 +46,6 @@ never : {A : Type 0} → ◌≡◌ {A = ℕ} 0 1 → A
 never e = absurd (omega arith)
 
 -- ---- what each answer tells
-pub record Impossible (z : Sums) (n : ℕ) : Type 0 where
-  pub holds : impossible z ≡ true
-  pub is : n ≡ 9
-
 pub record NoCell (z : Sums) : Type 0 where
   pub possible : Possible z
   pub is : count z ≡ 0
@@ -69,14 +55,6 @@ pub record Taken (z : Sums) (m : CentralMoments) : Type 0 where
   pub possible : Possible z
   pub some_cell : count z ≡ 0 → ⊥
   pub is : m ≡ central_moments z
-
-refused-tells : (z : Sums) (n : ℕ) → refused n ≡ central_call z → Impossible z n
-refused-tells z n e = go (case-of z) e
-  where
-    go : Case z → refused n ≡ central_call z → Impossible z n
-    go (refusing i c) e = record { holds = i; is = cc }
-    go (empty p k c) e = never (cc)
-    go (given p k c) e = never (cc)
 
 pub empty-tells : (z : Sums) → answered none ≡ central_call z → NoCell z
 empty-tells z e = go (case-of z) e
@@ -95,21 +73,6 @@ given-tells z m e = go (case-of z) e
     go (given p k c) e = record { possible = p; some_cell = k; is = cc }
 
 -- ---- what a statistic that goes on from it answers
--- the refusal
-pub refused-too : {A : Type 0} (z : Sums) (n : ℕ) (r : A) → refused n ≡ central_call z → refused n ≡ unless9 z r
-refused-too z n r e = let f = refused-tells z n e in ap refused f.is ∙ sym (refuses z r f.holds)
-
-pub optional-refused : {A : Type 0} (z : Sums) (r : Result (code.Option A) Refusal) (e : Refusal) (v : Option A) → IsErrAnd r (λ y. y ≡ e) → refused (number e) ≡ central_call z → optional_outcome r ≡ unless9 z v
-optional-refused z r e v q h = optional-refusal r e (unless9 z v) q (refused-too z (number e) v h)
-
-pub voice-refused : (z : Sums) (r : Result declared.Voice Refusal) (e : Refusal) (v : Voice) → IsErrAnd r (λ y. y ≡ e) → refused (number e) ≡ central_call z → voice_outcome r ≡ unless9 z v
-voice-refused z (Ok a) e v q h = absurd q
-voice-refused z (Err y) e v q h = rw q (refused-too z (number e) v h)
-
-pub coefficient-refused : (z : Sums) (r : Result correlation.Coefficient Refusal) (e : Refusal) (v : Coefficient) → IsErrAnd r (λ y. y ≡ e) → refused (number e) ≡ central_call z → coefficient_outcome r ≡ unless9 z v
-coefficient-refused z (Ok a) e v q h = absurd q
-coefficient-refused z (Err y) e v q h = rw q (refused-too z (number e) v h)
-
 -- Empty, and a value
 pub empty-too : {A : Type 0} (z : Sums) (r : A) → answered none ≡ central_call z → answered none ≡ unless9 z (unless_empty z r)
 empty-too z r e = let f = empty-tells z e in answers-empty z r f.possible f.is

@@ -2,7 +2,7 @@
 -- Assumes nothing.
 use Rattle.std.specs.Prelude.{ℕ, ◌*◌, ◌^◌, ◌≤◌, ◌<◌, ℤ, nat_abs}
 
--- of N-as-P - S-as-T
+-- of a form as N·P - S·T
 pub record Factors (n s t p : ℤ) : Type 0 where
   pub count : nat_abs n ≤ 65025
   pub first : nat_abs s ≤ 32768 * 65025

@@ -1,4 +1,4 @@
-// Statistics of six sums: what they take, what they answer, and what that means. The functions are in `central`, `moments` and `correlation`.
+// Statistics of six sums: what they take, what they answer, and what that means. The functions are in `bounds`, `central`, `moments`, `voices` and `correlation`.
 #![tactic(auto)]
 
 // "These take six sums N, S, T, A, B, P (planes 0 to 5)."
@@ -28,7 +28,8 @@ pub struct Grain {
     pub spread: f32,
 }
 
-// "Empty if N = 0; Steady with a level if Vf = 0; otherwise Grainy with a level and a spread." Three cases, so no Option.
+// "Empty if N = 0; Steady with a level if Vf = 0; otherwise Grainy with a level and a spread." Three cases, and no Option of two: document 01's forms
+// name an enum for this answer.
 #[derive(Clone, Copy)]
 pub enum Voice {
     Empty,
@@ -36,7 +37,7 @@ pub enum Voice {
     Grainy(Grain),
 }
 
-// "Empty if N = 0; Flat if Vf or Vg is 0; otherwise the sign of C times the largest whole c": three cases too.
+// "Empty if N = 0; Flat if Vf or Vg is 0; otherwise the sign of C times the largest whole c": an enum of three cases too.
 #[derive(Clone, Copy)]
 pub enum Coefficient {
     Empty,

@@ -2,8 +2,8 @@
 use picture::Refusal;
 use statistics::{Coefficient, Voice};
 
-// What is given, by its kind: 1 Empty, and then the others in the order in which document 01 names them. A number and no enum, since a tally compares
-// numbers and its checksum takes them, and the three types have other kinds each.
+// What is given, by its kind: 1 Empty, and then the others in the order in which document 01 names them. A number and no enum: the three
+// types have other kinds each, and the place in document 01's list is what they share.
 pub trait Kinds: Drop {
     fn kind(&self) -> u64;
 }
@@ -45,7 +45,7 @@ pub fn kind<T: Kinds>(answer: Result<T, Refusal>) -> u64 {
     }
 }
 
-// The whole number of an answer, 0 where it has none.
+// The whole number of an answer, 0 where it has none: a number for the reason at `value`.
 pub fn number(answer: Result<Option<i64>, Refusal>) -> i64 {
     answer.ok().flatten().unwrap_or(0)
 }
@@ -58,7 +58,7 @@ pub fn value(answer: Result<Coefficient, Refusal>) -> i64 {
     }
 }
 
-// The level of an answer and its spread, 0 where it has none.
+// The level of an answer and its spread, 0 where it has none: they are compared once the kind is.
 pub fn parts(answer: Result<Voice, Refusal>) -> (f32, f32) {
     match answer {
         Ok(Voice::Steady(level)) => (level, 0.0),

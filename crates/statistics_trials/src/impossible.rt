@@ -3,16 +3,15 @@ use crate::six_sums;
 use picture::Refusal;
 use statistics::Sums;
 use std::io;
-use trial_cases::answers::{number, refusal};
 use trial_tools::tally::Tally;
 
 // The five statistics of six sums.
-fn refused(z: Sums, wanted: u64, t: Tally) -> Tally {
-    t.with(refusal(moments::mean(z)), wanted)
-        .with(refusal(moments::variance(z)), wanted)
-        .with(refusal(moments::deviation(z)), wanted)
-        .with(refusal(voices::voice_answer(z)), wanted)
-        .with(refusal(correlation::coefficient(z)), wanted)
+fn refused(z: Sums, wanted: Option<Refusal>, t: Tally) -> Tally {
+    t.with(moments::mean(z).err(), wanted)
+        .with(moments::variance(z).err(), wanted)
+        .with(moments::deviation(z).err(), wanted)
+        .with(voices::voice_answer(z).err(), wanted)
+        .with(correlation::coefficient(z).err(), wanted)
 }
 
 const LARGEST: i64 = i64::MAX;
@@ -65,14 +64,21 @@ const POSSIBLE: [[i64; 6]; 8] = [
 ];
 
 // The sums of a list.
-fn all(list: &[[i64; 6]], wanted: u64) -> Tally {
+fn all(list: &[[i64; 6]], wanted: Option<Refusal>) -> Tally {
     list.iter().fold(Tally::default(), |t, z| {
         refused(six_sums::sums(*z), wanted, t)
     })
 }
 
 pub fn run(rt: &impl Print) -> io::Result<()> {
-    let wanted = number(Some(Refusal::Sums));
-    println!(rt; "calls refused by {wanted}: {}", all(&IMPOSSIBLE, wanted))?;
-    println!(rt; "statistics of sums at their limits: {}", all(&POSSIBLE, 0))
+    let wanted = Refusal::Sums;
+    let number = u32::from(wanted);
+    println!(rt;
+        "calls refused by {number}: {}",
+        all(&IMPOSSIBLE, Some(wanted))
+    )?;
+    println!(rt;
+        "statistics of sums at their limits: {}",
+        all(&POSSIBLE, None)
+    )
 }

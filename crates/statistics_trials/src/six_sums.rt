@@ -3,7 +3,7 @@ use crate::answers;
 use crate::answers::Kinds;
 use picture::Cell;
 use rival::{Given, moments as rivals};
-use statistics::{Coefficient, Sums};
+use statistics::{Coefficient, Grain, Sums, Voice};
 use std::io;
 use trial_cases::cases::{Case, Plane};
 use trial_cases::places;
@@ -11,14 +11,13 @@ use trial_tools::tally::Tally;
 
 // The six sums at a cell.
 fn six(given: Given, cell: Cell) -> Sums {
-    let Cell { row: i, column: j } = cell;
     Sums {
-        n: given.plane_sum(Plane::One, i, j),
-        s: given.plane_sum(Plane::F, i, j),
-        t: given.plane_sum(Plane::G, i, j),
-        a: given.plane_sum(Plane::SquareF, i, j),
-        b: given.plane_sum(Plane::SquareG, i, j),
-        p: given.plane_sum(Plane::Product, i, j),
+        n: given.plane_sum(Plane::One, cell),
+        s: given.plane_sum(Plane::F, cell),
+        t: given.plane_sum(Plane::G, cell),
+        a: given.plane_sum(Plane::SquareF, cell),
+        b: given.plane_sum(Plane::SquareG, cell),
+        p: given.plane_sum(Plane::Product, cell),
     }
 }
 
@@ -62,16 +61,18 @@ fn voice(z: Sums, t: Tally) -> Tally {
     let kind = answers::kind(answer);
     let (level, spread) = answers::parts(answer);
     if z.n == 0 {
-        return t.with(kind, 1);
+        return t.with(kind, Voice::Empty.kind());
     }
     let same_level = level == rivals::part(rivals::mean(z.n, z.s));
     let seen = t.with(u64::from(same_level), 1);
     let square = vf(z);
     if square == 0 {
-        return seen.with(kind, 2);
+        return seen.with(kind, Voice::Steady(level).kind());
     }
     let same_spread = spread == rivals::part(rivals::deviation(z.n, square));
-    seen.with(kind, 3).with(u64::from(same_spread), 1)
+    let grainy = Voice::Grainy(Grain { level, spread });
+    seen.with(kind, grainy.kind())
+        .with(u64::from(same_spread), 1)
 }
 
 // The coefficient; its value is compared where 64 bits hold the products, and always has its part in the checksum.
@@ -98,7 +99,7 @@ fn of_sums(z: Sums, t: Tally) -> Tally {
     coefficient(z, voice(z, whole_numbers(z, t)))
 }
 
-// One case: its pictures made, and the statistics at so many cells. A group has `of_case` and `of_cases` of its own, as it has its own tallies.
+// One case: its pictures made, and the statistics at so many cells. `of_cases` is a `fold` of std, which each group calls over its own cases.
 fn of_case(case: Case, cells: usize, tally: Tally) -> Tally {
     let pictures = case.pictures();
     let given = Given::new(case, &pictures);
@@ -109,6 +110,7 @@ fn of_cases(trials: usize) -> Tally {
     (0..trials).fold(Tally::default(), |t, k| of_case(places::case(k), 60, t))
 }
 
+// Six sums of a list. No `From`, which would have to stand in `statistics`, for the trials alone.
 pub fn sums(z: [i64; 6]) -> Sums {
     let [n, s, t, a, b, p] = z;
     Sums { n, s, t, a, b, p }

@@ -1,16 +1,17 @@
 -- What the functions of a row step ask of their inputs.
+-- Room is asked in each contract, for the reason at `areas/specs/Asked`.
 -- Assumes nothing.
 use Rattle.std.specs.Prelude.{◌≡◌, ℕ, ◌≤◌, ◌<◌, List, length, ℤ}
 use Rattle.picture.specs.declared.Size.{Size}
 use Rattle.picture.specs.Picture.{Inputs}
 
--- a row and a distance from it, and room for a row
+-- A row and a distance from it, and room for a row. Limits on numbers, which callers count on from row to row: a type for each would be made anew at every step.
 pub record RowAsked (z : Size) (i d : ℕ) (out : List ℤ) : Type 0 where
   pub row : i ≤ 256
   pub distance : d ≤ 127
   pub room : length out ≡ z.columns
 
--- a row of the picture, a work area, and room for a row
+-- A row of the picture, a number that callers count as in `RowAsked`, a work area, and room for a row.
 pub record StepAsked (x : Inputs) (i : ℕ) (work line : List ℤ) : Type 0 where
   pub row : i < x.source.size.rows
   pub room_work : length work ≡ x.source.size.columns

@@ -15,13 +15,7 @@ pub fn add_gain(source: &CheckedSource<'_>, i: usize, d: usize, sums: &mut [i64]
     requires { RowAsked source.now.size i d sums.old }
     ensures { sums.new ≡ tabulate source.now.size.columns (λ j. wrap (get_or sums.old j (pos 0) +ℤ enter_leave source.now.size (plane_at (checked_source source.now)) i d j)) }
 {
-    let enter = i + 1 + d;
-    if i < d {
-        change::exchange(source, enter, None, sums);
-        return;
-    }
-    let leave = i - d;
-    change::exchange(source, enter, Some(leave), sums);
+    change::exchange(source, i + 1 + d, i.checked_sub(d), sums);
 }
 
 // The same alone: in `row` the cells that enter less those that leave.

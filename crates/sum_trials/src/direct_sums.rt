@@ -2,8 +2,8 @@
 use picture::{Cell, Refusal};
 use rival::Given;
 use std::io;
+use trial_cases::places;
 use trial_cases::places::Trial;
-use trial_cases::{answers, places};
 use trial_tools::tally::Tally;
 
 // The library's sum at a cell.
@@ -15,11 +15,11 @@ pub fn sum(given: Given, cell: Cell) -> Result<i64, Refusal> {
 fn at_cell(given: Given, k: usize, t: Tally) -> Tally {
     let cell = given.case.scattered(k);
     let answer = sum(given, cell);
-    t.with(answers::refusal(answer), 0)
-        .with(answer.unwrap_or(0), given.sum(cell.row, cell.column))
+    t.with(answer.err(), None)
+        .with(answer.unwrap_or(0), given.sum(cell))
 }
 
-// One case: its pictures made, and the sums at so many of its cells compared. A group has `of_case` and `of_cases` of its own, as it has its own tallies.
+// One case: its pictures made, and the sums at so many of its cells compared. `of_cases` is a `fold` of std, which each group calls over its own cases.
 fn of_case(trial: Trial, tally: Tally) -> Tally {
     let pictures = trial.case.pictures();
     let given = Given::new(trial.case, &pictures);

@@ -3,7 +3,6 @@ use crate::direct_sums;
 use picture::{Cell, Refusal, Shift};
 use rival::Given;
 use std::io;
-use trial_cases::answers;
 use trial_cases::cases::{Case, Plane, Shape};
 use trial_tools::tally::Tally;
 
@@ -59,11 +58,11 @@ fn tried(line: Line, t: Tally) -> Tally {
         column: columns / 2,
     };
     let answer = direct_sums::sum(given, cell);
-    let seen = t.with(answers::refusal(answer), answers::number(refusal));
+    let seen = t.with(answer.err(), refusal);
     if refusal.is_some() {
         return seen;
     }
-    seen.with(answer.unwrap_or(0), given.sum(cell.row, cell.column))
+    seen.with(answer.unwrap_or(0), given.sum(cell))
 }
 
 pub fn run(rt: &impl Print) -> io::Result<()> {

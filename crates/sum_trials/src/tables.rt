@@ -3,9 +3,10 @@ use picture::Cell;
 use rival::Given;
 use rival::corners::Table;
 use std::io;
+use trial_cases::places;
 use trial_cases::places::Trial;
-use trial_cases::{answers, places};
 use trial_tools::areas;
+use trial_tools::areas::CELLS;
 use trial_tools::tally::Tally;
 
 // The three tallies of this group.
@@ -20,35 +21,33 @@ struct Tallies {
 fn reading(read: Table, cell: Cell, sum: i64, t: Tally) -> Tally {
     let c = read.case;
     let answer = table::read(c.size(), read.entries, c.window(), cell);
-    t.with(answers::refusal(answer), 0)
-        .with(answer.unwrap_or(0), sum)
+    t.with(answer.err(), None).with(answer.unwrap_or(0), sum)
 }
 
 // The k-th cell: the built table's entry and reading, and the foreign table's reading.
 fn at_cell(given: Given, built: Table, foreign: Table, k: usize, t: Tallies) -> Tallies {
     let c = given.case;
     let cell = c.scattered(k);
-    let Cell { row: i, column: j } = cell;
-    let entry = areas::read(built.entries, c.place(i, j));
+    let entry = areas::read(built.entries, c.place(cell));
     Tallies {
-        entries: t.entries.with(entry, given.entry(i, j)),
-        built: reading(built, cell, given.sum(i, j), t.built),
-        foreign: reading(foreign, cell, foreign.reading(i, j), t.foreign),
+        entries: t.entries.with(entry, given.entry(cell)),
+        built: reading(built, cell, given.sum(cell), t.built),
+        foreign: reading(foreign, cell, foreign.reading(cell), t.foreign),
     }
 }
 
 // One case: its pictures made, their table built in an area with foreign contents, and compared at so many cells. The areas are arrays, since the trials
-// have no heap. A group has `of_case` and `of_cases` of its own, as it has its own tallies.
+// have no heap. `of_cases` is a `fold` of std, which each group calls over its own cases.
 fn of_case(trial: Trial, tallies: Tallies) -> Tallies {
     let case = trial.case;
     let pictures = case.pictures();
     let given = Given::new(case, &pictures);
-    let cells = case.cells().min(32768);
-    let before: [i64; 32768] = areas::foreign(cells, case.seed);
+    let cells = case.cells().min(CELLS);
+    let before: [i64; CELLS] = areas::foreign(cells, case.seed);
     let mut area = before;
     let answer = table::build(&given.source(), &mut area[..cells]);
     let begun = Tallies {
-        entries: tallies.entries.with(answers::refusal(answer), 0),
+        entries: tallies.entries.with(answer.err(), None),
         ..tallies
     };
     let built = Table {

@@ -1,5 +1,6 @@
 // A case of the trials: what a call is given.
 use picture::{Cell, Shift, Size, Window};
+use trial_tools::areas::CELLS;
 use trial_tools::random;
 
 // The shape of a window, and a number that is none's. Not `picture::Shape`, which has no such number, and whose own numbers are tried.
@@ -27,25 +28,18 @@ impl From<Shape> for u32 {
 // tries, so that an error there is none here too.
 #[derive(Clone, Copy, Debug, PartialEq, Eq)]
 pub enum Plane {
-    One,
-    F,
-    G,
-    SquareF,
-    SquareG,
-    Product,
+    One = 0,
+    F = 1,
+    G = 2,
+    SquareF = 3,
+    SquareG = 4,
+    Product = 5,
 }
 
 // The number that a call takes for it.
 impl From<Plane> for u32 {
     fn from(plane: Plane) -> u32 {
-        match plane {
-            Plane::One => 0,
-            Plane::F => 1,
-            Plane::G => 2,
-            Plane::SquareF => 3,
-            Plane::SquareG => 4,
-            Plane::Product => 5,
-        }
+        plane as u32
     }
 }
 
@@ -104,8 +98,10 @@ impl Case {
     }
 
     // The place of a cell in its pictures.
-    pub fn place(self, row: usize, column: usize) -> usize {
-        row.wrapping_mul(self.columns).wrapping_add(column)
+    pub fn place(self, cell: Cell) -> usize {
+        cell.row
+            .wrapping_mul(self.columns)
+            .wrapping_add(cell.column)
     }
 
     // The k-th cell in row order.
@@ -124,7 +120,7 @@ impl Case {
 
     // Its two pictures.
     pub fn pictures(self) -> Pictures {
-        let cells = self.cells().min(32768);
+        let cells = self.cells().min(CELLS);
         Pictures {
             f: random::picture(cells, self.seed),
             g: random::picture(cells, random::next(self.seed)),
@@ -136,17 +132,17 @@ impl Case {
 // The two pictures of a case: as many levels of each area as there are cells. Arrays with a length beside them, since the trials have no heap.
 #[derive(Clone, Copy)]
 pub struct Pictures {
-    f: [i16; 32768],
-    g: [i16; 32768],
+    f: [i16; CELLS],
+    g: [i16; CELLS],
     cells: usize,
 }
 
 impl Pictures {
     pub fn f(&self) -> &[i16] {
-        &self.f[..self.cells.min(32768)]
+        &self.f[..self.cells.min(CELLS)]
     }
 
     pub fn g(&self) -> &[i16] {
-        &self.g[..self.cells.min(32768)]
+        &self.g[..self.cells.min(CELLS)]
     }
 }

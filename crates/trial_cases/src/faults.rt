@@ -242,7 +242,7 @@ impl Operation {
             return last;
         }
         match (self.refusing(one), last) {
-            (Some(first), Some(last)) if u32::from(first) < u32::from(last) => Some(first),
+            (Some(first), Some(last)) if first < last => Some(first),
             (first, None) => first,
             _ => last,
         }

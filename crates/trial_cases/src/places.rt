@@ -19,7 +19,7 @@ fn generated_case(k: usize) -> Case {
     generated::case(random::at(2024, k), SHAPES[k % 3], PLANES[k / 3 % 6])
 }
 
-// The k-th case of up to 24 rows and 40 columns; the first ones have one row, one column, or both.
+// The k-th case of up to 24 rows and 40 columns; three of every 24 have one row, one column, or both.
 pub fn case(k: usize) -> Case {
     let c = generated_case(k);
     match k % 24 {

@@ -1,6 +1,7 @@
-// Numbers that look random and are the same in every run, and pictures made of them.
+// Numbers that look random and are the same in every run, and pictures made of them. Bits are parted by remainders, since a cast asks that the number fits.
+use crate::areas;
 
-// The next number of a multiplicative generator, from 0 to 4,294,967,290.
+// The next number of a multiplicative generator, from 1 to 4,294,967,290.
 pub fn next(state: u64) -> u64 {
     (state % 4294967290 + 1) * 279470273 % 4294967291
 }
@@ -66,11 +67,7 @@ impl Kind {
 
 // The first n levels that a seed gives, of a kind; the others are 0.
 pub fn levels<const N: usize>(n: usize, kind: Kind, seed: u64) -> [i16; N] {
-    let mut out = [0i16; N];
-    for (k, level) in out.iter_mut().enumerate().take(n) {
-        *level = kind.level(seed, at(seed, k));
-    }
-    out
+    areas::first(n, |k| kind.level(seed, at(seed, k)))
 }
 
 // The first n levels of a picture, of the kind that the seed gives.

@@ -1,4 +1,5 @@
 // What a group of trials has compared: how many things, how many of them differed, and a checksum of what the library gave.
+use picture::Refusal;
 use std::fmt;
 
 #[derive(Clone, Copy)]
@@ -35,7 +36,8 @@ fn stirred(checksum: u64, half: u64) -> u64 {
     (checksum % 4294967291) * 279470273 % 4294967291 + half % 4294967296
 }
 
-// What is compared: a number, which the checksum takes by halves.
+// What is compared: a number, which the checksum takes by halves, parted by a remainder, since a cast asks that the number fits. No `Hash`: its hasher would give
+// other numbers than the checksums that stand written.
 pub trait Compared: PartialEq + Copy + Drop {
     fn stir(self, checksum: u64) -> u64;
 }
@@ -69,6 +71,17 @@ impl Compared for u8 {
 impl Compared for i16 {
     fn stir(self, checksum: u64) -> u64 {
         i64::from(self).stir(checksum)
+    }
+}
+
+// The refusal of a call, by its number, and 0 where the call is taken.
+impl Compared for Option<Refusal> {
+    fn stir(self, checksum: u64) -> u64 {
+        let number = match self {
+            Some(refusal) => u32::from(refusal),
+            None => 0,
+        };
+        u64::from(number).stir(checksum)
     }
 }
 

@@ -1,5 +1,5 @@
-// The voice answer of six sums.
-#![tactic(auto)]
+// The voice answer of six sums. Level and spread are mean and deviation, each by one call of `rounding`, as in `moments`.
+#![tactic(auto, unfolding(picture::specs::Refusal::refusal, picture::specs::Refusal::outcome, statistics::specs::Central::central_call, statistics::specs::Moments::unless_empty, statistics::specs::Voice::voice_call, statistics::specs::Voice::voice))]
 
 ghost use Rattle.std.specs.Prelude.{◌≡◌};
 ghost use Rattle.statistics.specs.Voice.{voice_call};

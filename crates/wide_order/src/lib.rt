@@ -1,4 +1,5 @@
-// The order of products past 64 bits. The structs derive it, word by word from the upper one; that it is the order of the numbers is proved here, once for each.
+// The order of products past 64 bits. The structs derive it, word by word from the upper one; that it is the order of the numbers is proved here, once for
+// each: the proof goes over the words, of which one type has two and the other three, so a generic function would ask a trait for what is shown here.
 #![tactic(auto)]
 
 ghost use Rattle.std.specs.Prelude.{◌≡◌, leb};

@@ -3,7 +3,6 @@
 use Rattle.std.specs.Prelude.{ℕ, suc, ◌+◌, ◌-◌, ◌≤◌, ◌<◌, min, length, get_or, ℤ, pos, Option, None, Some}
 use Rattle.numbers.specs.Sum.{dist, sum_to}
 use Rattle.picture.specs.declared.Cell.{Cell}
-use Rattle.picture.specs.declared.Size.{Size}
 use Rattle.picture.specs.declared.Window.{Window}
 use Rattle.picture.specs.Window.{shape_of, reach}
 use Rattle.picture.specs.Picture.{plane_value}
@@ -11,11 +10,6 @@ use Rattle.overlaps.specs.declared.overlap.Overlap.{Overlap}
 use Rattle.overlaps.specs.Overlaps.{Clipped}
 use Rattle.lines.specs.declared.line.Line.{Line}
 use Rattle.lines.specs.Lines.{Span}
-
--- a cell of the picture
-pub record SumAsked (z : Size) (c : Cell) : Type 0 where
-  pub row_inside : c.row < z.rows
-  pub column_inside : c.column < z.columns
 
 -- columns of a picture with a cell's among them, and columns that count
 pub record ColumnsAsked (columns : ℕ) (c : Cell) (o : Overlap) : Type 0 where

@@ -4,10 +4,11 @@
 
 ghost use Rattle.std.specs.Prelude.{◌≡◌, ◌+ℤ◌, IfSome};
 ghost use Rattle.numbers.specs.Wrap.{wrap};
+ghost use Rattle.picture.specs.Size.{Within};
 ghost use Rattle.picture.specs.Plane.{plane_number};
 ghost use Rattle.picture.specs.Checked.{given, checked_inputs};
 ghost use Rattle.picture.specs.Direct.{direct_sum};
-ghost use Rattle.window_sums.specs.Summing.{SumAsked, ColumnsAsked, RowColumns, FewCells, line_sum};
+ghost use Rattle.window_sums.specs.Summing.{ColumnsAsked, RowColumns, FewCells, line_sum};
 
 use lines::{Counting, Line, counting_of, line_of};
 use overlaps::Overlap;
@@ -39,14 +40,14 @@ fn add_line(plane: Plane, line: Option<Line<'_>>, sum: i64) -> i64
     let Some(line) = line else {
         return sum;
     };
-    let total = row_totals::total(plane, line.f, line.g);
+    let total = row_totals::total(plane, line);
     wrapping::wrapping_add(sum, total)
 }
 
 // The sum of the plane over the window.
 #[tactic(auto, unfolding(picture::specs::Size::size_legal))]
 pub fn sum(inputs: &CheckedInputs<'_>, cell: Cell) -> i64
-    requires { SumAsked inputs.now.source.size cell }
+    requires { Within inputs.now.source.size cell.row cell.column }
     ensures { result ≡ direct_sum (checked_inputs inputs.now) cell.row cell.column }
 {
     let source = &inputs.source;

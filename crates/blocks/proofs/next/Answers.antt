@@ -1,6 +1,6 @@
 -- `blocks::next` meets its contract. Assumes nothing.
 use mathlib.Core.Path.{◌≡◌, ◌∙◌}
-use Prim.Native.Nat.{◌-◌, ◌*◌, ◌%◌, ◌≤◌}
+use Prim.Native.Nat.{◌-◌, ◌*◌, ◌≤◌}
 use native.Mathlib.Omega.{arith}
 use native.Mathlib.Nat.{mul-le-mul_right}
 use lib.ListN.{length, take}
@@ -9,7 +9,7 @@ use Rattle.picture.proofs.Found.{checked}
 use Rattle.picture.specs.Picture.{Inputs}
 use Rattle.picture.specs.Checked.{checked_inputs}
 use Rattle.blocks.specs.Blocks.{rows_in}
-use Rattle.blocks.proofs.RowSums.{block_made, row_first}
+use Rattle.blocks.proofs.BlockSums.{block_made}
 use Rattle.blocks.proofs.next.Goals as goal
 
 pub returns : goal.returns
@@ -20,7 +20,4 @@ returns c =
     let lent : length (take ((c.high.result - c.args.i) * c.args.inputs.now.source.size.columns) c.args.block.now) ≡ (c.high.result - c.args.i) * c.args.inputs.now.source.size.columns = length-take-le ((c.high.result - c.args.i) * c.args.inputs.now.source.size.columns) c.args.block.now (omega (arith, few, c.requires.room)) in
     let m = c.many in
     let i = c.args.i in
-    let start : i % 16 ≡ 0 = omega (arith, c.if-i-ne0.false) in
-    let part = m.new.out in
-    row_first given i _ _ c.requires.row start
-    (block_made given (checked c.args.inputs.now) i (c.high.result - i) c.args.work.now m.new.work c.args.block.now part rows_of (c.requires.before.fresh start) m.ensures (omega (arith, few, c.requires.room)) (m.auto.out ∙ lent))
+    block_made given (checked c.args.inputs.now) i (c.high.result - i) c.args.work.now m.new.work c.args.block.now m.new.out rows_of c.requires.before m.ensures (omega (arith, few, c.requires.room)) (m.auto.out ∙ lent)

@@ -31,16 +31,10 @@ returns-in_default-try_from c =
     grind (arith, to_z-of_z, refused-g)
 
 pub returns-then-not-at_most : goal.returns-then-not-at_most
-returns-then-not-at_most c =
-    let held : Held c.args.z c.covariance-f.result c.covariance-g.result c.covariance-c.result = search rules in
-    grind (arith, to_z-of_z, refused-c)
+returns-then-not-at_most c = grind (arith, to_z-of_z, refused-c)
 
 pub returns-then-count-eq0 : goal.returns-then-count-eq0
-returns-then-count-eq0 c =
-    let held : Held c.args.z c.covariance-f.result c.covariance-g.result c.covariance-c.result = search rules in
-    grind (arith, to_z-of_z, empty)
+returns-then-count-eq0 c = grind (arith, to_z-of_z, empty)
 
 pub returns : goal.returns
-returns c =
-    let held : Held c.args.z c.covariance-f.result c.covariance-g.result c.covariance-c.result = search rules in
-    grind (arith, to_z-of_z, given)
+returns c = grind (arith, to_z-of_z, given)

@@ -15,9 +15,8 @@ line_of-requires c = asked (checked_source c.args.source.now) c.args.counting c.
 pub returns-clause-values : goal.returns-clause-values
 returns-clause-values c k k< =
     let x = checked_source c.args.source.now in
-    let row = c.in_ok-row.row in
     let q = c.args.counting in
-    c.line_of.ensures.values _ k k< ∙ row-value x q c.requires row k k< ∙ one-leaves x row (q.columns.first + k) ∙ ap (λ (r : Option ℕ). row_if_any x r (q.columns.first + k)) (sym c.in_ok-row.was)
+    c.line_of.ensures.values _ k k< ∙ row-value x q c.requires _ k k< ∙ one-leaves x _ (q.columns.first + k) ∙ ap (λ (r : Option ℕ). row_if_any x r (q.columns.first + k)) (sym c.in_ok-row.was)
 
 pub returns-in_err-row-clause-values : goal.returns-in_err-row-clause-values
 returns-in_err-row-clause-values c k k< =

@@ -1,13 +1,7 @@
 -- `correlation::coefficient` meets its contract. Assumes nothing.
 use borrow.Author.Rules.{rules}
-use Rattle.statistics.specs.Coefficient.{coefficient_call}
-use Rattle.statistics.proofs.Answers.{coefficient-refused}
 use Rattle.correlation.proofs.Largest.{empty-answer, flat-answer, correlated, product-fits, value-answer}
 use Rattle.correlation.proofs.coefficient.Goals as goal
-
-pub returns-in_err-m : goal.returns-in_err-m
-unfolding coefficient_call
-returns-in_err-m c = coefficient-refused c.args.z _ _ _ c.from_residual.ensures.1 c.in_err-m.ensures
 
 pub returns-in_default : goal.returns-in_default
 returns-in_default c = empty-answer c.args.z (rw c.in_default.is at c.in_ok-m.ensures)

@@ -5,18 +5,9 @@ use native.Mathlib.Omega.{arith}
 use borrow.Author.Tests.{leb-true, leb-false}
 use Rattle.wide.specs.Words.{value, scaled_value}
 use Rattle.statistics.proofs.Halving.{found}
-use Rattle.correlation.proofs.Bits.{more-small, square-small, taken, left}
+use Rattle.correlation.proofs.Bits.{taken, left}
 use Rattle.correlation.proofs.wide_root.Goals.{then-scaled_at_most, else-scaled_at_most}
 use Rattle.correlation.proofs.wide_root.Goals as goal
-
-pub loop-bit-init : goal.loop-bit-init
-loop-bit-init c = record { order = omega arith; within = omega arith; reached = omega arith; passed = omega (arith, c.requires.some, c.requires.small) }
-
-pub overflow_add-more : goal.overflow_add-more
-overflow_add-more c = record { fits = omega (arith, more-small _ _ _ _ c.loop-bit.invariant c.loop-bit-test.true) }
-
-pub overflow_mul-more : goal.overflow_mul-more
-overflow_mul-more c = record { fits = omega (arith, square-small _ _ _ _ c.loop-bit.invariant c.loop-bit-test.true) }
 
 pub loop-bit-preserved : goal.loop-bit-preserved
 loop-bit-preserved c =

@@ -1,8 +1,7 @@
 -- `first_rows::first` meets its contract. Assumes nothing.
 use mathlib.Core.Path.{◌≡◌, refl, sym, ap, ◌∙◌}
-use Prim.Native.Nat.{ℕ, suc, ◌+◌, ◌≤◌, min}
+use Prim.Native.Nat.{ℕ, suc, ◌+◌, min}
 use native.Mathlib.Omega.{arith}
-use lib.IntN.{ℤ}
 use lib.ListN.{length, drop, length-append, length-drop}
 use lib.Seq.{length-take-le}
 use Rattle.picture.proofs.Found.{limits}
@@ -12,31 +11,23 @@ use Rattle.picture.specs.Picture.{Source, plane_at}
 use Rattle.picture.specs.Checked.{given, checked_source}
 use Rattle.picture.specs.Direct.{direct_sum}
 use Rattle.picture.proofs.Planes.{plane-bound}
-use Rattle.steps.proofs.Columns.{columns-none, columns-plus, reached, windows-all}
+use Rattle.steps.proofs.Columns.{columns-none, columns-plus, windows-all}
 use Rattle.first_rows.proofs.first.Goals as goal
 
 pub high-end-requires : goal.high-end-requires
 high-end-requires c = omega (arith, (limits c.args.inputs.now.source).some_rows)
 
 pub loop-m-init : goal.loop-m-init
-loop-m-init c =
-    let pictures : Source = checked_source c.args.inputs.now.source in
-    let rows : ℕ → ℕ → ℤ = reached c.args.inputs.now.source.size (plane_at pictures) (shape_of (given c.args.inputs.now.window)) in
-    (omega arith, c.requires.room, refl, columns-none rows c.args.inputs.now.source.size.columns _ _ c.requires.room_work c.fill.ensures)
+loop-m-init c = (omega arith, c.requires.room, refl, columns-none _ _ _ _ c.requires.room_work c.fill.ensures)
 
 pub slice_bounds-cells-end : goal.slice_bounds-cells-end
-slice_bounds-cells-end c =
-    let few : c.args.inputs.now.source.size.columns ≤ 1024 = (limits c.args.inputs.now.source).few_columns in
-    omega (arith, few, c.loop-m.invariant.2)
+slice_bounds-cells-end c = omega (arith, (limits c.args.inputs.now.source).few_columns, c.loop-m.invariant.2)
 
 pub slice_bounds-reaching-end : goal.slice_bounds-reaching-end
-slice_bounds-reaching-end c =
-    let few : c.args.inputs.now.source.size.columns ≤ 1024 = (limits c.args.inputs.now.source).few_columns in
-    sym (length-take-le _ _ (omega (arith, few, c.loop-m.invariant.2)))
+slice_bounds-reaching-end c = sym (length-take-le _ _ (omega (arith, (limits c.args.inputs.now.source).few_columns, c.loop-m.invariant.2)))
 
 pub reaching-requires : goal.reaching-requires
 reaching-requires c =
-    let few : c.args.inputs.now.source.size.columns ≤ 1024 = (limits c.args.inputs.now.source).few_columns in
     let l = c.loop-m in
     record {
       step = record {
@@ -44,20 +35,17 @@ reaching-requires c =
         room_work = ap length l.invariant.3 ∙ length-tabulate _ _;
         room = l.invariant.1;
       };
-      room = length-take-le _ _ (omega (arith, few, l.invariant.2));
+      room = length-take-le _ _ (omega (arith, (limits c.args.inputs.now.source).few_columns, l.invariant.2));
     }
 
 pub loop-m-preserved : goal.loop-m-preserved
 loop-m-preserved c =
-    let pictures : Source = checked_source c.args.inputs.now.source in
-    let rows : ℕ → ℕ → ℤ = reached c.args.inputs.now.source.size (plane_at pictures) (shape_of (given c.args.inputs.now.window)) in
-    let few : c.args.inputs.now.source.size.columns ≤ 1024 = (limits c.args.inputs.now.source).few_columns in
     let l = c.loop-m in
     let call = c.reaching in (
       omega (arith, c.loop-m-test.true),
       call.auto.row ∙ l.invariant.1,
-      length-append call.new.cells (drop c.args.inputs.now.source.size.columns l.cells) ∙ omega (arith, call.auto.cells, length-take-le c.args.inputs.now.source.size.columns l.cells (omega (arith, few, l.invariant.2)), length-drop c.args.inputs.now.source.size.columns l.cells, few, l.invariant.2),
-      columns-plus rows c.args.inputs.now.source.size.columns l.m _ _ l.invariant.3 call.ensures,
+      length-append call.new.cells (drop c.args.inputs.now.source.size.columns l.cells) ∙ omega (arith, call.auto.cells, length-take-le c.args.inputs.now.source.size.columns l.cells (omega (arith, (limits c.args.inputs.now.source).few_columns, l.invariant.2)), length-drop c.args.inputs.now.source.size.columns l.cells, (limits c.args.inputs.now.source).few_columns, l.invariant.2),
+      columns-plus _ _ l.m _ _ l.invariant.3 call.ensures,
     )
 
 pub returns : goal.returns

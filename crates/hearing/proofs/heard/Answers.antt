@@ -1,5 +1,5 @@
 -- `hearing::heard` meets its contract. Assumes nothing.
-use mathlib.Core.Path.{◌≡◌, refl, ap, ◌∙◌}
+use mathlib.Core.Path.{◌≡◌, refl}
 use mathlib.Core.Bool.{false}
 use mir.Facts.{to_z-of_z}
 use Rattle.std.specs.Prelude.{Result, Ok, Err, IsOk}

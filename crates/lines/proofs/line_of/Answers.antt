@@ -11,7 +11,7 @@ returns-then-row-rows-clause-values c p k k< = value-none (checked_source c.args
 pub returns-clause-values : goal.returns-clause-values
 unfolding line_value
 returns-clause-values c p k k< =
-    value-some (checked_source c.args.source.now) c.args.counting c.args.row c.requires c.args.source.now.length_f c.args.source.now.length_g c.if-row-rows.false c.if-rows-row.false p k k<
+    rw c.len-n.ensures (value-some (checked_source c.args.source.now) c.args.counting c.args.row c.requires c.args.source.now.length_f c.args.source.now.length_g c.if-row-rows.false c.if-rows-row.false p k k<)
 
 pub slice_bounds-result-end-2 : goal.slice_bounds-result-end-2
 slice_bounds-result-end-2 c =

@@ -1,75 +1,103 @@
 -- `mean_rows::every_row` meets its contract. Assumes nothing.
-use mathlib.Core.Path.{◌≡◌, refl, sym, ◌∙◌, subst}
-use Prim.Native.Nat.{ℕ, ◌+◌, ◌-◌, ◌*◌, ◌%◌, ◌≤◌}
-use native.Mathlib.Nat.{mod-lt}
+use mathlib.Core.Path.{◌≡◌, refl, ◌∙◌, subst}
+use Prim.Native.Nat.{ℕ, ◌+◌, ◌-◌, ◌*◌, ◌≤◌, ◌<◌, min}
 use native.Mathlib.Omega.{arith}
-use native.Mathlib.Numerals.{add-one}
-use lib.ListN.{length, take, drop}
+use lib.ListN.{length}
+use borrow.Rule.Slice.PartMut.{put_mid}
+use Rattle.numbers.proofs.Lines.{Lines, lines_none, lines-all}
+use Rattle.numbers.proofs.Writes.{part_length}
 use Rattle.picture.proofs.Found.{Checked, checked}
 use Rattle.picture.specs.Checked.{given, checked_inputs}
-use Rattle.numbers.proofs.Lines.{lines-all, line-end}
-use Rattle.numbers.proofs.Writes.{slice-length}
 use Rattle.picture.specs.Picture.{Inputs}
 use Rattle.statistics.specs.SixSums.{on_plane, six_sums}
 use Rattle.statistics.specs.Moments.{mean}
 use Rattle.smoothed.specs.Smoothing.{alone, smoothed}
-use Rattle.blocks.specs.Blocks.{Held}
-use Rattle.mean_rows.proofs.RowMeans.{alone-sums, row_of, put-line, row-asked, row-mean}
+use Rattle.blocks.specs.Blocks.{rows_in}
+use Rattle.blocks.proofs.BlockSums.{ready-behind}
+use Rattle.mean_rows.proofs.Kept.{Before}
+use Rattle.mean_rows.proofs.BlockMeans.{put-lines, lent-length, alone-block, block-end, block-asked, block-mean}
 use Rattle.mean_rows.proofs.every_row.Goals as goal
+
+pub loop-block-init : goal.loop-block-init
+loop-block-init c =
+    let picture : Inputs = alone c.args.inputs.now.source.size c.args.inputs.now.source.f.now (given c.args.inputs.now.window) in
+    let none : 0 ≡ min 0 c.args.inputs.now.source.size.rows = omega arith in
+    record {
+      written = subst (Lines (λ i j. mean (six_sums picture i j)) _ _) none (lines_none _ _ _);
+      full = c.requires.picture.full;
+      ready_counts = λ h. tt;
+      ready_totals = λ h. tt;
+      room_counts = c.requires.room_counts;
+      room_totals = c.requires.room_totals;
+      room_n = c.requires.room_n;
+      room_s = c.requires.room_s;
+    }
+
+pub slice_bounds-row_means-end-in-loop-block-4 : goal.slice_bounds-row_means-end-in-loop-block-4
+slice_bounds-row_means-end-in-loop-block-4 c =
+    let picture : Inputs = alone c.args.inputs.now.source.size c.args.inputs.now.source.f.now (given c.args.inputs.now.window) in
+    let l = c.loop-block in
+    let i : ℕ = 16 * l.block in
+    let below : i < c.args.inputs.now.source.size.rows = omega (arith, c.loop-block-test.true, c.div_ceil-block-end.ensures) in
+    let is : c.high.result - i ≡ rows_in picture i = rw c.high.ensures in
+    omega (arith, l.invariant.full, block-end picture i (c.high.result - i) is below)
 
 pub row_means-requires : goal.row_means-requires
 row_means-requires c =
-    let columns = c.args.inputs.now.source.size.columns in
-    let start = c.loop-i.i * columns in
-    let ends : start + columns ≤ length c.loop-i.out = omega (arith, c.loop-i.invariant.5, c.requires.picture.full, line-end c.loop-i.i c.args.inputs.now.source.size.rows columns c.loop-i-test.true) in
-    let room : length (take (start + columns - start) (drop start c.loop-i.out)) ≡ columns =
-    let span : start + columns - start ≡ columns = omega arith in
-    slice-length start (start + columns) c.loop-i.out (omega arith) ends ∙ span in
-    let counted = c.next in
-    let counted-sums = alone-sums (checked_inputs c.args.inputs.now) _ 0 c.on_plane-ones.ensures c.requires.picture.alone c.loop-i.i _ _ counted.ensures in
-    let summed = c.next-in-loop-i in
-    let summed-sums = alone-sums (checked_inputs c.args.inputs.now) _ 1 c.on_plane-levels.ensures c.requires.picture.alone c.loop-i.i _ _ summed.ensures in
-    let n = row_of (c.loop-i.i % 16) c.args.inputs.now.source.size.columns counted.new.block (counted.auto.block ∙ c.loop-i.invariant.3) (mod-lt c.loop-i.i (omega arith)) in
-    let m = row_of (c.loop-i.i % 16) c.args.inputs.now.source.size.columns summed.new.block (summed.auto.block ∙ c.loop-i.invariant.4) (mod-lt c.loop-i.i (omega arith)) in
-    row-asked c.args.inputs.now.source.size c.args.inputs.now.source.f.now (given c.args.inputs.now.window) (subst Checked c.requires.picture.alone (checked c.args.inputs.now)) c.loop-i.i c.loop-i-test.true _ _ _ n.size m.size room
-    (λ j h. n.each j h ∙ counted-sums.sums j h) (λ j h. m.each j h ∙ summed-sums.sums j h)
-
-pub loop-i-preserved : goal.loop-i-preserved
-loop-i-preserved c =
+    let x : Inputs = checked_inputs c.args.inputs.now in
     let picture : Inputs = alone c.args.inputs.now.source.size c.args.inputs.now.source.f.now (given c.args.inputs.now.window) in
-    let columns = c.args.inputs.now.source.size.columns in
-    let start = c.loop-i.i * columns in
-    let ends : start + columns ≤ length c.loop-i.out = omega (arith, c.loop-i.invariant.5, c.requires.picture.full, line-end c.loop-i.i c.args.inputs.now.source.size.rows columns c.loop-i-test.true) in
-    let room : length (take (start + columns - start) (drop start c.loop-i.out)) ≡ columns =
-    let span : start + columns - start ≡ columns = omega arith in
-    slice-length start (start + columns) c.loop-i.out (omega arith) ends ∙ span in
-    let l = c.loop-i in
+    let l = c.loop-block in
     let z = c.args.inputs.now.source.size in
-    let counted = c.next in
-    let counted-sums = alone-sums (checked_inputs c.args.inputs.now) _ 0 c.on_plane-ones.ensures c.requires.picture.alone c.loop-i.i _ _ counted.ensures in
-    let summed = c.next-in-loop-i in
-    let summed-sums = alone-sums (checked_inputs c.args.inputs.now) _ 1 c.on_plane-levels.ensures c.requires.picture.alone c.loop-i.i _ _ summed.ensures in
-    let n = row_of (l.i % 16) z.columns counted.new.block (counted.auto.block ∙ l.invariant.3) (mod-lt l.i (omega arith)) in
-    let m = row_of (l.i % 16) z.columns summed.new.block (summed.auto.block ∙ l.invariant.4) (mod-lt l.i (omega arith)) in
-    let row = c.row_means in
-    let i = l.i in (
-      put-line (λ i j. mean (six_sums picture i j)) z.columns i start l.out row.new.out l.invariant.0 refl ends (row.auto.out ∙ room)
-          (row-mean z c.args.inputs.now.source.f.now (given c.args.inputs.now.window) (subst Checked c.requires.picture.alone (checked c.args.inputs.now)) i c.loop-i-test.true _ _ _ n.size m.size room (λ j h. n.each j h ∙ counted-sums.sums j h) (λ j h. m.each j h ∙ summed-sums.sums j h) row.new.out row.ensures),
-      counted.auto.work ∙ l.invariant.1,
-      summed.auto.work ∙ l.invariant.2,
-      counted.auto.block ∙ l.invariant.3,
-      summed.auto.block ∙ l.invariant.4,
-      c.out-1.given.1 ∙ l.invariant.5,
-      subst (λ (k : ℕ). Held (on_plane picture 0) k counted.new.work counted.new.block) (sym (add-one i)) counted-sums.next,
-      subst (λ (k : ℕ). Held (on_plane picture 1) k summed.new.work summed.new.block) (sym (add-one i)) summed-sums.next,
-      omega (arith, c.loop-i-test.true),
-    )
+    let i : ℕ = 16 * l.block in
+    let m = c.high.result - i in
+    let below : i < z.rows = omega (arith, c.loop-block-test.true, c.div_ceil-block-end.ensures) in
+    let is : m ≡ rows_in picture i = rw c.high.ensures in
+    let ends : i * z.columns + m * z.columns ≤ length l.out = omega (arith, l.invariant.full, block-end picture i m is below) in
+    block-asked z c.args.inputs.now.source.f.now (given c.args.inputs.now.window) (subst Checked c.requires.picture.alone (checked c.args.inputs.now)) i m is _ _ _ _ _
+    (alone-block x _ 0 c.on_plane-ones.ensures c.requires.picture.alone i _ _ c.next.ensures)
+    (alone-block x _ 1 c.on_plane-levels.ensures c.requires.picture.alone i _ _ c.next-in-loop-block.ensures)
+    (c.next.auto.block ∙ l.invariant.room_n)
+    (c.next-in-loop-block.auto.block ∙ l.invariant.room_s)
+    (lent-length (i * z.columns) (m * z.columns) l.out ends)
+
+pub loop-block-preserved : goal.loop-block-preserved
+loop-block-preserved c =
+    let x : Inputs = checked_inputs c.args.inputs.now in
+    let picture : Inputs = alone c.args.inputs.now.source.size c.args.inputs.now.source.f.now (given c.args.inputs.now.window) in
+    let l = c.loop-block in
+    let z = c.args.inputs.now.source.size in
+    let i : ℕ = 16 * l.block in
+    let m = c.high.result - i in
+    let below : i < z.rows = omega (arith, c.loop-block-test.true, c.div_ceil-block-end.ensures) in
+    let is : m ≡ rows_in picture i = rw c.high.ensures in
+    let ends : i * z.columns + m * z.columns ≤ length l.out = omega (arith, l.invariant.full, block-end picture i m is below) in
+    let in_n = alone-block x _ 0 c.on_plane-ones.ensures c.requires.picture.alone i _ _ c.next.ensures in
+    let in_s = alone-block x _ 1 c.on_plane-levels.ensures c.requires.picture.alone i _ _ c.next-in-loop-block.ensures in
+    let room = lent-length (i * z.columns) (m * z.columns) l.out ends in
+    let above : min i z.rows ≡ i = omega (arith, below) in
+    let next : i + m ≡ min (i + 16) z.rows = omega (arith, c.high.ensures, below) in
+    let on : i + 16 ≡ 16 * (l.block + 1) = omega arith in
+    let rows = block-mean z c.args.inputs.now.source.f.now (given c.args.inputs.now.window) (subst Checked c.requires.picture.alone (checked c.args.inputs.now)) i m is _ _ _ _ _ in_n in_s (c.next.auto.block ∙ l.invariant.room_n) (c.next-in-loop-block.auto.block ∙ l.invariant.room_s) room c.row_means.new.out c.row_means.ensures in
+    let start = i * z.columns in
+    let end = start + m * z.columns in
+    let span : m * z.columns ≡ end - start = omega arith in
+    let before : Before picture c.next.new.work c.next-in-loop-block.new.work c.next.new.block c.next-in-loop-block.new.block (put_mid start (end - start) l.out c.row_means.new.out) (i + 16) = record {
+      written = subst (Lines (λ i j. mean (six_sums picture i j)) z.columns _) next (put-lines _ z.columns i m start end l.out c.row_means.new.out (rw above at l.invariant.written) refl refl ends (c.row_means.auto.out ∙ room) rows);
+      full = part_length start end l.out c.row_means.new.out (omega arith) ends (c.row_means.auto.out ∙ room ∙ span) ∙ l.invariant.full;
+      ready_counts = ready-behind (on_plane picture 0) i _ _ in_n;
+      ready_totals = ready-behind (on_plane picture 1) i _ _ in_s;
+      room_counts = c.next.auto.work ∙ l.invariant.room_counts;
+      room_totals = c.next-in-loop-block.auto.work ∙ l.invariant.room_totals;
+      room_n = c.next.auto.block ∙ l.invariant.room_n;
+      room_s = c.next-in-loop-block.auto.block ∙ l.invariant.room_s;
+    } in
+    subst (Before picture _ _ _ _ _) on before
 
 pub returns : goal.returns
 unfolding smoothed
 returns c =
     let picture : Inputs = alone c.args.inputs.now.source.size c.args.inputs.now.source.f.now (given c.args.inputs.now.window) in
-    let l = c.loop-i in
+    let l = c.loop-block in
     let z = c.args.inputs.now.source.size in
-    let e : l.i ≡ z.rows = omega (arith, l.invariant.8, c.loop-i-test.false) in
-    lines-all (λ i j. mean (six_sums picture i j)) z.columns l.out z.rows (rw e at l.invariant.0) (l.invariant.5 ∙ c.requires.picture.full)
+    let all : min (16 * l.block) z.rows ≡ z.rows = omega (arith, c.loop-block-test.false, c.div_ceil-block-end.ensures) in
+    lines-all (λ i j. mean (six_sums picture i j)) z.columns l.out z.rows (rw all at l.invariant.written) l.invariant.full

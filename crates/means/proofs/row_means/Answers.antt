@@ -8,7 +8,7 @@ use mir.Syntax.{w16, w64}
 use mir.Val.{SFits}
 use Rattle.numbers.specs.Round.{nearest}
 use Rattle.numbers.proofs.Writes.{at, upto-more, upto_all}
-use Rattle.means.specs.Means.{means_of, LevelSum}
+use Rattle.means.specs.Means.{means_of}
 use Rattle.means.proofs.row_means.Goals as goal
 
 pub mean-requires : goal.mean-requires

@@ -8,7 +8,6 @@ use mir.Val.{to_z}
 use Rattle.numbers.specs.Round.{root_over}
 use lib.IntN.{pos}
 use Rattle.statistics.specs.Moments.{deviation, deviation_call}
-use Rattle.statistics.proofs.Answers.{optional-refused}
 use Rattle.statistics.proofs.Inner.{square-small, ratio, root-small, deviation-is}
 use Rattle.moments.proofs.Mapped.{mapped}
 use Rattle.moments.proofs.deviation.Goals as goal
@@ -20,10 +19,6 @@ map-requires c m is =
       λ p q r. ratio c.args.z m e,
       λ p q r. record { sfits = omega (arith, root-small c.args.z m e _ r.ensures) },
     )
-
-pub returns-in_err-central_moments : goal.returns-in_err-central_moments
-unfolding deviation_call
-returns-in_err-central_moments c = optional-refused c.args.z _ _ _ c.from_residual.ensures.1 c.in_err-central_moments.ensures
 
 pub returns : goal.returns
 unfolding deviation_call

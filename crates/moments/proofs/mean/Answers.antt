@@ -6,7 +6,6 @@ use mir.Val.{SFits, to_z, of_z}
 use mir.Facts.{to_z-of_z}
 use Rattle.numbers.specs.Round.{nearest}
 use Rattle.statistics.specs.Moments.{mean, mean_call}
-use Rattle.statistics.proofs.Answers.{optional-refused}
 use Rattle.statistics.proofs.Inner.{mean-asked, mean-is}
 use Rattle.moments.proofs.Mapped.{mapped}
 use Rattle.moments.proofs.mean.Goals as goal
@@ -15,10 +14,6 @@ pub map-requires : goal.map-requires
 map-requires c m is =
     let e = rw is at c.in_ok-central_moments.ensures in
     λ p q r s u. mean-asked c.args.z m e (record { sfits = s })
-
-pub returns-in_err-central_moments : goal.returns-in_err-central_moments
-unfolding mean_call
-returns-in_err-central_moments c = optional-refused c.args.z _ _ _ c.from_residual.ensures.1 c.in_err-central_moments.ensures
 
 pub returns : goal.returns
 unfolding mean_call

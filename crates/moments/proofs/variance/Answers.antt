@@ -8,7 +8,6 @@ use mir.Val.{SFits, to_z}
 use mir.Facts.{to_z-of_z}
 use Rattle.numbers.specs.Round.{nearest}
 use Rattle.statistics.specs.Moments.{variance, variance_call}
-use Rattle.statistics.proofs.Answers.{optional-refused}
 use Rattle.statistics.proofs.Inner.{square-small, spread-small, variance-asked, variance-is}
 use Rattle.moments.proofs.Mapped.{mapped}
 use Rattle.moments.proofs.variance.Goals as goal
@@ -20,10 +19,6 @@ map-requires c m is =
       λ p q r. record { fits = omega (arith, square-small c.args.z m e) },
       λ p q r s. variance-asked c.args.z m e,
     )
-
-pub returns-in_err-central_moments : goal.returns-in_err-central_moments
-unfolding variance_call
-returns-in_err-central_moments c = optional-refused c.args.z _ _ _ c.from_residual.ensures.1 c.in_err-central_moments.ensures
 
 pub returns : goal.returns
 unfolding variance_call

@@ -2,14 +2,11 @@
 use Rattle.std.proofs.Common.{◌≡◌, length, rules, arith, pos, FitsSigned, w16, slice_index_or}
 use Rattle.std.proofs.lemmas.Int.{to_z-of_z}
 use Rattle.std.proofs.lemmas.Option.{MatchOption-at_some}
-use Rattle.panel_print.proofs.Prints.{at-front, at-last, line_first, line-room, line-more, line-done}
+use Rattle.panel_print.proofs.Prints.{at-front, at-last, line_first, line-more, line-done}
 use Rattle.panel_print.proofs.line.Goals as goal
 
 pub loop-v-init : goal.loop-v-init
 loop-v-init c = line_first _ _ c.requires.some_column
-
-pub field-len-requires : goal.field-len-requires
-field-len-requires c = line-room _ _ _ _ _ c.loop-v.invariant c.requires
 
 pub loop-v-preserved : goal.loop-v-preserved
 loop-v-preserved c =
@@ -17,9 +14,6 @@ loop-v-preserved c =
     let fits : FitsSigned w16 (slice_index_or c.unwrap.result.1.now c.loop-v.v-index (pos 0)) = search rules in
     let w = simp (to_z-of_z, fits) at c.field-len.ensures in
     line-more _ _ _ _ _ c.loop-v.invariant _ _ (omega (arith, parts.1, c.loop-v-test.true)) (rw (← at-front _ _ _ parts.0 c.loop-v.v-index c.loop-v-test.true) w.0) w.1
-
-pub field-requires : goal.field-requires
-field-requires c = line-room _ _ _ _ _ c.loop-v.invariant c.requires
 
 pub returns : goal.returns
 returns c =

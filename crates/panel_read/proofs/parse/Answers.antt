@@ -1,8 +1,11 @@
 -- `panel_read::parse` meets its contract. Assumes nothing.
-use Rattle.std.proofs.Common.{sym, arith}
+use Rattle.std.proofs.Common.{sym, ap, ◌∙◌, arith}
+use Rattle.std.proofs.lemmas.Bool.{not-false}
 use Rattle.std.proofs.lemmas.Result.{err_from_is_err_and}
+use Rattle.picture.specs.Refusal.{refused}
+use Rattle.picture.proofs.Refusals.{none-head, refused-tells, answered-tells}
 use Rattle.panel_language.proofs.Example.{longer}
-use Rattle.panel_read.proofs.Drawings.{cells-few, cells-room, cells-part, roomy, no_size, no-window, no-levels, window-beyond, picture-taken}
+use Rattle.panel_read.proofs.Drawings.{cells-few, cells-room, cells-part, roomy, no_size, no-window, no-levels, refused-beyond, window-beyond, picture-taken}
 use Rattle.panel_read.proofs.parse.Goals as goal
 
 pub returns-then-text-gt65536 : goal.returns-then-text-gt65536
@@ -33,10 +36,15 @@ returns-in_err-ok_or c =
     rw (p.1, p.2)
     (no-levels _ c.if-text-gt65536.false _ _ c.new-numbers.ensures _ c.in_ok-size.ensures _ _ c.in_ok-window.ensures _ (roomy c.in_ok-size.ensures c.requires) _ c.read_levels.result _ c.read_levels.ensures c.in_err-ok_or.ensures.value)
 
-pub returns-then-not-window_legal : goal.returns-then-not-window_legal
-returns-then-not-window_legal c =
-    window-beyond _ c.if-text-gt65536.false _ _ c.new-numbers.ensures _ c.in_ok-size.ensures _ _ c.in_ok-window.ensures _ (roomy c.in_ok-size.ensures c.requires) _ c.read_levels.result c.read_levels.ensures _ c.in_ok-ok_or.ensures.ok_part (sym c.if-not-window_legal.ensures)
+pub returns-in_err-check_window : goal.returns-in_err-check_window
+returns-in_err-check_window c =
+    let p = err_from_is_err_and c.from_residual-in_err-check_window.result c.from_residual-in_err-check_window.ensures.1 in
+    let beyond = refused-beyond _ _ (refused-tells _ _ _ c.in_err-check_window.ensures) in
+    rw (p.1, p.2)
+    (window-beyond _ c.if-text-gt65536.false _ _ c.new-numbers.ensures _ c.in_ok-size.ensures _ _ c.in_ok-window.ensures _ (roomy c.in_ok-size.ensures c.requires) _ c.read_levels.result c.read_levels.ensures _ c.in_ok-ok_or.ensures.ok_part beyond.0
+    ∙ ap refused (sym beyond.1))
 
 pub returns : goal.returns
 returns c =
-    picture-taken _ c.if-text-gt65536.false _ _ c.new-numbers.ensures _ c.in_ok-size.ensures _ _ c.in_ok-window.ensures _ (roomy c.in_ok-size.ensures c.requires) _ c.read_levels.result c.read_levels.ensures _ c.in_ok-ok_or.ensures.ok_part (sym c.if-not-window_legal.ensures) _ c.read_levels.auto.levels
+    let legal = not-false _ (none-head _ _ _ (sym (answered-tells _ _ _ c.in_ok-check_window.ensures).0)) in
+    picture-taken _ c.if-text-gt65536.false _ _ c.new-numbers.ensures _ c.in_ok-size.ensures _ _ c.in_ok-window.ensures _ (roomy c.in_ok-size.ensures c.requires) _ c.read_levels.result c.read_levels.ensures _ c.in_ok-ok_or.ensures.ok_part legal _ c.read_levels.auto.levels

@@ -9,7 +9,7 @@ returns-then-out-lt-ROOM c =
 
 pub show-requires : goal.show-requires
 show-requires c =
-    legal-show _ _ c.if-out-lt-ROOM.false c.parse.result _ c.parse.ensures _ _ c.in-Ok.is (omega (arith, c.parse.auto.levels, c.cells-levels.ensures))
+    legal-show _ _ c.if-out-lt-ROOM.false c.parse.result _ c.parse.ensures _ _ c.in-Ok.is (omega (arith, c.parse.auto.levels, c.area-levels.ensures))
 
 pub returns-in-Ok : goal.returns-in-Ok
 returns-in-Ok c =

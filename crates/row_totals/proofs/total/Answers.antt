@@ -19,7 +19,7 @@ wrapped r s f e = to_z-of_z f ∙ sym (wrap-fits r f) ∙ ap wrap e
 pub returns-in-One : goal.returns-in-One
 unfolding plane_value
 returns-in-One c =
-    let n = length c.args.a.now in
+    let n = length c.args.line.f.now in
     rw c.in-One.is (to_z_pos w64 (omega arith) ∙ sym (wrap-small (pos n) (omega arith)) ∙ ap wrap (ones n))
 
 pub returns-in-F : goal.returns-in-F
@@ -28,4 +28,4 @@ returns-in-F c = rw c.in-F.is (wrapped _ _ (record { sfits = c.levels_total.type
 
 pub returns-in-G : goal.returns-in-G
 unfolding plane_value
-returns-in-G c = rw (c.in-G.is, ← c.requires.same) (wrapped _ _ (record { sfits = c.levels_total-in-G.type_inv }) c.levels_total-in-G.ensures)
+returns-in-G c = rw (c.in-G.is, ← c.args.line.same) (wrapped _ _ (record { sfits = c.levels_total-in-G.type_inv }) c.levels_total-in-G.ensures)

@@ -1,5 +1,5 @@
 -- `search::by_blocks` meets its contract. Assumes nothing.
-use mathlib.Core.Path.{◌≡◌, refl, sym, ap, subst, ◌∙◌}
+use mathlib.Core.Path.{◌≡◌, sym, ap, subst, ◌∙◌}
 use Prim.Native.Nat.{ℕ, ◌+◌, ◌-◌, ◌*◌, ◌≤◌, ◌<◌}
 use native.Mathlib.Nat.{mul-le-mul_right}
 use native.Mathlib.Omega.{arith}
@@ -7,17 +7,18 @@ use Rattle.picture.proofs.Found.{limits, checked}
 use Rattle.picture.specs.Answers.{option_of}
 use Rattle.picture.specs.Checked.{checked_inputs}
 use Rattle.picture.specs.Picture.{Inputs}
+use Rattle.statistics.specs.SixSums.{on_plane}
 use Rattle.blocks.specs.Blocks.{rows_in}
+use Rattle.blocks.proofs.BlockSums.{ready-behind}
 use Rattle.hearing.proofs.Searching.{no_row}
 use Rattle.search.proofs.Kept.{Before}
 use Rattle.search.proofs.Searching.{steady_at, whole-search, found-within}
-use Rattle.search.proofs.BlockRows.{blocks-at, few, same-behind, start-behind, ready-behind, possible, in_block, behind-block}
+use Rattle.search.proofs.BlockRows.{blocks-at, few, same-behind, possible, in_block, behind-block}
 use Rattle.search.proofs.by_blocks.Goals as goal
 
 pub loop-block-init : goal.loop-block-init
 loop-block-init c = record {
   same = whole-search (checked_inputs c.args.inputs.now);
-  start = refl;
   ready_counts = λ h. tt;
   ready_totals = λ h. tt;
   ready_squares = λ h. tt;
@@ -35,7 +36,7 @@ first-requires c =
     let i : ℕ = 16 * c.loop-block.block in
     let below : i < c.args.inputs.now.source.size.rows = omega (arith, c.loop-block-test.true, c.div_ceil-block-end.ensures) in
     let is : c.high.result - i ≡ rows_in given i = rw c.high.ensures in
-    let b = blocks-at given _ _ _ c.on_plane-ones.ensures c.on_plane-levels.ensures c.on_plane-level_squares.ensures i c.loop-block.invariant.start _ _ _ _ _ _ c.next.ensures c.next-in-loop-block.ensures c.next-in-loop-block-2.ensures in
+    let b = blocks-at given _ _ _ c.on_plane-ones.ensures c.on_plane-levels.ensures c.on_plane-level_squares.ensures i _ _ _ _ _ _ c.next.ensures c.next-in-loop-block.ensures c.next-in-loop-block-2.ensures in
     let room : (c.high.result - i) * c.args.inputs.now.source.size.columns ≤ 16 * c.args.inputs.now.source.size.columns = mul-le-mul_right c.args.inputs.now.source.size.columns (few given (checked c.args.inputs.now) i _ below is) in
     let l = c.loop-block in
     record {
@@ -58,7 +59,7 @@ returns-in-Some c =
     let i : ℕ = 16 * c.loop-block.block in
     let below : i < c.args.inputs.now.source.size.rows = omega (arith, c.loop-block-test.true, c.div_ceil-block-end.ensures) in
     let is : c.high.result - i ≡ rows_in given i = rw c.high.ensures in
-    let b = blocks-at given _ _ _ c.on_plane-ones.ensures c.on_plane-levels.ensures c.on_plane-level_squares.ensures i c.loop-block.invariant.start _ _ _ _ _ _ c.next.ensures c.next-in-loop-block.ensures c.next-in-loop-block-2.ensures in
+    let b = blocks-at given _ _ _ c.on_plane-ones.ensures c.on_plane-levels.ensures c.on_plane-level_squares.ensures i _ _ _ _ _ _ c.next.ensures c.next-in-loop-block.ensures c.next-in-loop-block-2.ensures in
     sym (in_block given (checked c.args.inputs.now) i (c.high.result - i) below is _ _ _ _ _ _ b (option_of c.first.result) c.first.ensures _ (ap option_of c.in-Some.is)) ∙ c.loop-block.invariant.same
 
 pub loop-block-preserved : goal.loop-block-preserved
@@ -67,17 +68,16 @@ loop-block-preserved c =
     let i : ℕ = 16 * c.loop-block.block in
     let below : i < c.args.inputs.now.source.size.rows = omega (arith, c.loop-block-test.true, c.div_ceil-block-end.ensures) in
     let is : c.high.result - i ≡ rows_in given i = rw c.high.ensures in
-    let b = blocks-at given _ _ _ c.on_plane-ones.ensures c.on_plane-levels.ensures c.on_plane-level_squares.ensures i c.loop-block.invariant.start _ _ _ _ _ _ c.next.ensures c.next-in-loop-block.ensures c.next-in-loop-block-2.ensures in
+    let b = blocks-at given _ _ _ c.on_plane-ones.ensures c.on_plane-levels.ensures c.on_plane-level_squares.ensures i _ _ _ _ _ _ c.next.ensures c.next-in-loop-block.ensures c.next-in-loop-block-2.ensures in
     let l = c.loop-block in
     let checks = checked c.args.inputs.now in
     let m = c.high.result - i in
     let on : i + 16 ≡ 16 * (l.block + 1) = omega arith in
     let before : Before given c.next.new.work c.next-in-loop-block.new.work c.next-in-loop-block-2.new.work c.next.new.block c.next-in-loop-block.new.block c.next-in-loop-block-2.new.block (i + 16) = record {
       same = sym (behind-block given checks i m below is _ _ _ _ _ _ b (option_of c.first.result) c.first.ensures (ap option_of c.in_default.is) ∙ same-behind given checks i m below is) ∙ l.invariant.same;
-      start = start-behind given checks i m below is l.invariant.start;
-      ready_counts = ready-behind given checks i m below is 0 _ _ b.counted;
-      ready_totals = ready-behind given checks i m below is 1 _ _ b.summed;
-      ready_squares = ready-behind given checks i m below is 3 _ _ b.squared;
+      ready_counts = ready-behind (on_plane given 0) i _ _ b.counted;
+      ready_totals = ready-behind (on_plane given 1) i _ _ b.summed;
+      ready_squares = ready-behind (on_plane given 3) i _ _ b.squared;
       room_counts = c.next.auto.work ∙ l.invariant.room_counts;
       room_totals = c.next-in-loop-block.auto.work ∙ l.invariant.room_totals;
       room_squares = c.next-in-loop-block-2.auto.work ∙ l.invariant.room_squares;

@@ -1,7 +1,7 @@
 -- `voices::voice_answer` meets its contract. Assumes nothing.
 use borrow.Author.Rules.{rules}
 use mathlib.Core.Path.{◌≡◌, sym, ap, ◌∙◌}
-use mathlib.Core.Option.{none, some}
+use mathlib.Core.Option.{some}
 use native.Mathlib.Omega.{arith}
 use borrow.Author.Tests.{eq-eqb, ne_eqb}
 use lib.IntN.{pos, nat_abs}
@@ -12,17 +12,10 @@ use Rattle.statistics.specs.declared.CentralMoments.{CentralMoments}
 use Rattle.statistics.specs.SixSums.{Vf, count}
 use Rattle.statistics.specs.Moments.{mean, deviation}
 use Rattle.statistics.specs.Central.{central_call}
-use Rattle.statistics.specs.Voice.{over32768, empty, steady, grainy, voice, voice_call}
+use Rattle.statistics.specs.Voice.{over32768, steady, grainy, voice, voice_call}
 use Rattle.statistics.proofs.Bounds.{answers}
 use Rattle.statistics.proofs.Inner.{taken, vf-is, mean-asked, mean-is, mean-small, square-small, ratio, root-small, deviation-is, deviation-small}
-use Rattle.statistics.proofs.Answers.{voice-refused, empty-tells}
 use Rattle.voices.proofs.voice_answer.Goals as goal
-
-empty-answer : (z : Sums) → answered none ≡ central_call z → answered empty ≡ voice_call z
-unfolding voice_call voice
-empty-answer z e =
-    let t = empty-tells z e in
-    rw (answers z (voice z) t.possible, eq-eqb (count z) 0 t.is, voice)
 
 module _ (z : Sums) (m : CentralMoments) (e : answered (some m) ≡ central_call z) (level : Float) (level-is : level ≡ over32768 (mean z)) where
   steady-answer : m.vf ≡ 0 → answered (steady level) ≡ voice_call z
@@ -60,13 +53,6 @@ overflow_cast-whole_root c = record { sfits = omega (arith, root-small c.args.z 
 
 pub over_32768-spread-requires : goal.over_32768-spread-requires
 over_32768-spread-requires c = deviation-small c.args.z _ (rw c.in-Some.is at c.in_ok-m.ensures) _ c.whole_root.ensures
-
-pub returns-in_err-m : goal.returns-in_err-m
-unfolding voice_call
-returns-in_err-m c = voice-refused c.args.z _ _ _ c.from_residual.ensures.1 c.in_err-m.ensures
-
-pub returns-in_default : goal.returns-in_default
-returns-in_default c = empty-answer c.args.z (rw c.in_default.is at c.in_ok-m.ensures)
 
 pub returns : goal.returns
 returns c =

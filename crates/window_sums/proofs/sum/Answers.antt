@@ -31,7 +31,7 @@ loop-m-preserved c =
     let x = checked_inputs c.args.inputs.now in
     let row = window_row x c.args.cell.row c.args.cell.column in
     let r : SFits w64 c.add_line-s.result = record { sfits = c.add_line-s.type_inv } in
-    let line : line_sum x.source.plane c.line_of.result ≡ row l.m = row-total x _ _ l.m _ c.counting_of-counting.ensures c.columns_of.result _ c.line_of.ensures.cells (c.line_of.ensures.values _) c.requires.column_inside c.columns_of.ensures in
+    let line : line_sum x.source.plane c.line_of.result ≡ row l.m = row-total x _ _ l.m _ c.counting_of-counting.ensures c.columns_of.result _ c.line_of.ensures.cells (c.line_of.ensures.values _) c.requires.column c.columns_of.ensures in
     to_z-of_z {w = w64} r ∙ c.add_line-s.ensures ∙ range-more row c.low-m.result l.m (to_z w64 l.s-bits) _ (omega arith) l.invariant (ap wrap line)
 
 pub returns : goal.returns
@@ -39,6 +39,6 @@ returns c =
     let cell = c.args.cell in
     let x = checked_inputs c.args.inputs.now in
     let height = c.height-height.ensures in
-    rows-done x cell.row cell.column c.low-m.result c.high-bottom.result c.loop-m.m _ c.requires.row_inside
+    rows-done x cell.row cell.column c.low-m.result c.high-bottom.result c.loop-m.m _ c.requires.row
     (c.low-m.ensures ∙ ap (λ (h : ℕ). cell.row - h) height) (c.high-bottom.ensures ∙ ap (λ (h : ℕ). min (suc (cell.row + h)) x.source.size.rows) height)
     (omega arith) (checked c.args.inputs.now) c.loop-m.invariant

@@ -1,6 +1,6 @@
 -- `edges::rows::rows_from` meets its contract. Assumes nothing.
-use mathlib.Core.Path.{◌≡◌, refl, ◌∙◌}
-use Prim.Native.Nat.{◌+◌, ◌-◌, ◌*◌, ◌≤◌}
+use mathlib.Core.Path.{refl, ◌∙◌}
+use Prim.Native.Nat.{◌+◌, ◌-◌}
 use native.Mathlib.Omega.{arith}
 use lib.ListN.{length}
 use Rattle.picture.proofs.Found.{limits}
@@ -48,16 +48,13 @@ load-requires g c =
 pub after-requires : goal.after-requires
 after-requires g c =
     let x = c.args.slanted.now in
-    let fits : (c.top_row-begin.result ≤ length c.args.out.now) × (length c.args.out.now - c.top_row-begin.result ≡ c.args.n * c.args.slanted.now.inputs.source.size.columns) =
-    let top = c.top_row-begin.ensures in
-    behind-fits c.args.fresh c.top_row-begin.result c.args.slanted.now.inputs.source.size.columns c.args.n (length c.args.out.now) top.begins top.none c.requires.room_fresh c.requires.room_behind in
     let r = c.start.ensures in
     let leaves = c.load.ensures in
     let top = c.top_row-begin in
     let columns = c.args.slanted.now.inputs.source.size.columns in
     let end = length top.new.out in
     let kept = top.auto.out in
-    let f = fits in (
+    let f = behind-fits _ _ _ _ _ top.ensures.begins top.ensures.none c.requires.room_fresh c.requires.room_behind in (
       g.met.S.Value.PlaneValue.row_fits,
       (
         g.met.S.Slope.slopes_fit,
@@ -77,14 +74,11 @@ after-requires g c =
 
 pub returns : goal.returns
 returns g c =
-    let fits : (c.top_row-begin.result ≤ length c.args.out.now) × (length c.args.out.now - c.top_row-begin.result ≡ c.args.n * c.args.slanted.now.inputs.source.size.columns) =
-    let top = c.top_row-begin.ensures in
-    behind-fits c.args.fresh c.top_row-begin.result c.args.slanted.now.inputs.source.size.columns c.args.n (length c.args.out.now) top.begins top.none c.requires.room_fresh c.requires.room_behind in
     let x : Inputs = checked_inputs c.args.slanted.now.inputs in
     let top = c.top_row-begin in
     let rest = c.after in
     let end = length top.new.out in
-    let f = fits in
+    let f = behind-fits _ _ _ _ _ top.ensures.begins top.ensures.none c.requires.room_fresh c.requires.room_behind in
     let kept = top.auto.out in
     rows-done x c.args.fresh c.args.i c.args.n top.result end c.args.work.now _ top.new.out rest.new.work rest.new.out c.args.slanted.now.fits.slanted c.requires.at_0 top.ensures (omega (arith, kept, f.0)) refl
     (rest.auto.out ∙ slice-length top.result end top.new.out (omega (arith, kept, f.0)) (omega arith)) rest.ensures

@@ -18,7 +18,7 @@ use Rattle.edges.proofs.rows.top_row.Goals as goal
 pub sum-sum-requires : goal.sum-sum-requires
 sum-sum-requires g c =
     let z = limits c.args.slanted.now.inputs.source in
-    record { row_inside = z.some_rows; column_inside = z.some_columns }
+    record { row = z.some_rows; column = z.some_columns }
 
 pub first-requires : goal.first-requires
 first-requires g c =
