@@ -2,7 +2,7 @@
 -- Assumes nothing.
 use mathlib.Core.Path.{◌≡◌, refl, sym, ◌∙◌, ap, ap₂, subst}
 use Prim.Native.Nat.{ℕ, zero, suc, ◌+◌, ◌-◌, ◌*◌, ◌^◌, ◌≤◌, ◌<◌}
-use native.Mathlib.Nat.{suc-mul, mul-le-mul}
+use native.Mathlib.Nat.{suc-mul}
 use native.Mathlib.Omega.{arith}
 use native.Mathlib.Numerals.{add-one}
 use mathlib.Core.Bool.{Bool, true, false, not, true≢false}
@@ -87,12 +87,6 @@ behind-fits true begin columns n l b o r s =
     let e : suc n * columns ≡ n * columns + columns = suc-mul n columns in
     (omega (arith, b tt, r tt, e), omega (arith, b tt, r tt, e))
 behind-fits false begin columns n l b o r s = (omega (arith, o tt), omega (arith, o tt, s tt))
-
-pub output-few : (fresh : Bool) (n columns l : ℕ) → suc n ≤ 256 → columns ≤ 1024 → (T fresh → l ≡ suc n * columns) → (T (not fresh) → l ≡ n * columns) → l ≤ 256 * 1024
-output-few true n columns l h k r s = omega (arith, r tt, mul-le-mul h k)
-output-few false n columns l h k r s =
-    let fewer : n ≤ 256 = omega arith in
-    omega (arith, s tt, mul-le-mul fewer k)
 
 -- the rest of an area put behind its front
 put_rest : (start end : ℕ) (out rest : List ℤ) → start ≤ end → length out ≡ end → length rest ≡ end - start → put_mid start (end - start) out rest ≡ take start out ++ rest
