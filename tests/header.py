@@ -9,17 +9,17 @@ from pathlib import Path
 
 ROOT = Path(__file__).resolve().parent.parent
 HEADER = "include/local_statistics.h"
-SOURCE = "crates/c_*/src/*.rt"
-REPLIES = "crates/replies/src/*.rt"
+SOURCE = "crates/c_interface/src/*.rt"
+REPLIES = "crates/c_interface/src/replies.rt"
 BINDING = "bindings/rust/src/calls.rs"
 TYPES = "bindings/rust/src/types.rs"
 REFUSALS = "bindings/rust/src/refusal.rs"
-CONDITIONS = "crates/picture/specs/Conditions.antt"
-SIX_SUMS = "crates/statistics/specs/SixSums.antt"
-LINES = "crates/picture/src/lib.rt"
-SHAPES = "crates/picture/src/shape.rt"
-PLANES = "crates/picture/src/plane.rt"
-PANEL = "crates/panel_language/specs/Panel.antt"
+CONDITIONS = "crates/spec_picture/specs/Conditions.antt"
+SIX_SUMS = "crates/spec_statistics/specs/SixSums.antt"
+LINES = "crates/spec_picture/src/lib.rt"
+SHAPES = "crates/spec_picture/src/shape.rt"
+PLANES = "crates/spec_picture/src/plane.rt"
+PANEL = "crates/spec_panel/specs/Panel.antt"
 
 # What a number of Rattle, or of Rust, is in C.
 C_TYPES = {
@@ -59,11 +59,11 @@ CONSTANTS = {
     "LS_PLANE_PRODUCT": [(PLANES, "@ => Ok(Plane::Product),"), (SIX_SUMS, " p = direct_sum (on_plane x @)"), (TYPES, "PRODUCT: Plane = Plane(@)")],
     "LS_STEADY": [(REPLIES, "const STEADY: u32 = @;"), (BINDING, "const STEADY: u32 = @;")],
     "LS_GRAINY": [(REPLIES, "const GRAINY: u32 = @;")],
-    "LS_MAX_ROWS": [("crates/picture/specs/Size.antt", "leb z.rows @"), (TYPES, "MAX_ROWS: usize = @;")],
-    "LS_MAX_COLUMNS": [("crates/picture/specs/Size.antt", "leb z.columns @"), (TYPES, "MAX_COLUMNS: usize = @;")],
-    "LS_MAX_DOWN": [("crates/picture/specs/Picture.antt", "(pos @) d.down"), (TYPES, "MAX_DOWN: i32 = @;")],
-    "LS_MAX_RIGHT": [("crates/picture/specs/Picture.antt", "(pos @) d.right"), (TYPES, "MAX_RIGHT: i32 = @;")],
-    "LS_MAX_WINDOW": [("crates/picture/specs/Window.antt", "(k +ℤ h) (pos @)"), (TYPES, "MAX_WINDOW: i32 = @;")],
+    "LS_MAX_ROWS": [("crates/spec_picture/specs/Size.antt", "leb z.rows @"), (TYPES, "MAX_ROWS: usize = @;")],
+    "LS_MAX_COLUMNS": [("crates/spec_picture/specs/Size.antt", "leb z.columns @"), (TYPES, "MAX_COLUMNS: usize = @;")],
+    "LS_MAX_DOWN": [("crates/spec_picture/specs/Picture.antt", "(pos @) d.down"), (TYPES, "MAX_DOWN: i32 = @;")],
+    "LS_MAX_RIGHT": [("crates/spec_picture/specs/Picture.antt", "(pos @) d.right"), (TYPES, "MAX_RIGHT: i32 = @;")],
+    "LS_MAX_WINDOW": [("crates/spec_picture/specs/Window.antt", "(k +ℤ h) (pos @)"), (TYPES, "MAX_WINDOW: i32 = @;")],
     "LS_MAX_CELLS": [(SIX_SUMS, "lt_z (pos @) z.n"), (TYPES, "MAX_CELLS: i64 = @;")],
     "LS_PANEL_MAX_BYTES": [(PANEL, "ltb @ (length text)"), (TYPES, "PANEL_MAX_BYTES: usize = @;")],
     "LS_PANEL_MAX_CELLS": [(PANEL, "leb (cells z) @"), (TYPES, "PANEL_MAX_CELLS: usize = @;")],

@@ -15,6 +15,7 @@ from pathlib import Path
 ROOT = Path(__file__).resolve().parent.parent
 CRATES = "crates.txt"
 README = "README.md"
+ARCHITECTURE = "docs/ARCHITECTURE.md"
 TRACE = "docs/TRACE.md"
 # They name what stood before, and are not read.
 BEFORE = ("docs/PORT.md", "docs/DESIGN-PASS.md")
@@ -125,13 +126,11 @@ def code_in(texts):
 
 
 def has_item(code, name):
-    """`crate::fn` anywhere in the crate, `crate::module::fn` in the file of that module, `crate::Type::fn` in a file that declares the type."""
-    crate, _, rest = name.partition("::")
-    module, _, item = rest.rpartition("::")
+    """`crate::fn` anywhere in the crate, `crate::module::fn` in the file of that module; so `Type::fn`, in a file that declares the type too."""
+    crate, *modules, item = name.split("::")
+    sought = {modules.pop(), item} if modules and modules[-1][:1].isupper() else {item}
     files = code.get(crate, {})
-    if module[:1].isupper():
-        return any({module, item} <= items(text) for text in files.values())
-    return any(item in items(text) for text in ([files.get(module, "")] if module else files.values()))
+    return any(sought <= items(text) for text in ([files.get("::".join(modules), "")] if modules else files.values()))
 
 
 def has_module(code, name):
@@ -243,17 +242,18 @@ def wrong_replacements(texts):
 
 
 def wrong_table(texts, crates):
-    """The README's table has every crate once, and none that another one above it rests on."""
-    listed = [name for row in crate_rows(texts[README]) for name in quoted(row["Crate"])]
+    """The table of crates has every crate once, and none that another one above it rests on."""
+    rows = crate_rows(texts[ARCHITECTURE])
+    listed = [name for row in rows for name in quoted(row["Crate"])]
     for crate in sorted(set(listed) ^ set(crates)):
-        yield f"{README}: {crate} is not both in the table of crates and in {CRATES}"
+        yield f"{ARCHITECTURE}: {crate} is not both in the table of crates and in {CRATES}"
     if len(listed) != len(set(listed)):
-        yield f"{README}: the table of crates has one twice"
-    place = {crate: row for row, each in enumerate(crate_rows(texts[README])) for crate in quoted(each["Crate"])}
+        yield f"{ARCHITECTURE}: the table of crates has one twice"
+    place = {crate: row for row, each in enumerate(rows) for crate in quoted(each["Crate"])}
     for crate, below in crates.items():
         for other in below:
             if place.get(other, 0) > place.get(crate, len(place)):
-                yield f"{README}: {crate} rests on {other}, which stands below it in the table"
+                yield f"{ARCHITECTURE}: {crate} rests on {other}, which stands below it in the table"
 
 
 def all_wrong(texts):
@@ -273,44 +273,43 @@ def all_wrong(texts):
 
 # What is done to which text, as a pattern and what takes its place.
 DAMAGES = [
-    ("a definition renamed", "crates/picture/specs/Size.antt", r"\bsize_legal :", "size_allowed :"),
-    ("a theorem renamed", "crates/picture/proofs/Refusals.antt", r"\bdirect-order :", "direct-checks :"),
-    ("a field renamed", "crates/agreement/specs/Agreement.antt", r"\bposition_is :", "place_is :"),
-    ("a function renamed", "crates/legal_sizes/src/lib.rt", r"fn size_legal\(", "fn size_allowed("),
-    ("a function in a comment alone", "crates/legal_sizes/src/lib.rt", r"pub fn size_legal\(", "// fn size_legal\npub fn legal("),
+    ("a definition renamed", "crates/spec_picture/specs/Size.antt", r"\bsize_legal :", "size_allowed :"),
+    ("a theorem renamed", "crates/spec_picture/proofs/Refusals.antt", r"\bdirect-order :", "direct-checks :"),
+    ("a field renamed", "crates/agreement/specs/Agreement.antt", r"\bjoined_length :", "joined_size :"),
+    ("a function renamed", "crates/checks/src/legal_sizes.rt", r"fn size_legal\(", "fn size_allowed("),
+    ("a function in a comment alone", "crates/checks/src/legal_sizes.rt", r"pub fn size_legal\(", "// fn size_legal\npub fn legal("),
     ("another field", TRACE, r"`joined_length`", "`joined-length`"),
     ("a law that is not there", DECISIONS, r"`direct-fits`", "`direct-fit`"),
-    ("another definition", TRACE, r"picture\.Size\.size_legal", "picture.Size.legal"),
-    ("another file of laws", TRACE, r"picture\.Refusals\.direct-order", "picture.Calls.direct-order"),
-    ("another module", TRACE, r"steps::step::add_gain", "steps::change::add_gain"),
-    ("another edit", TRACE, r"picture/plane_6`", "picture/plane_7`"),
-    ("an edit of a crate that is gone", TRACE, r"The edits of `wrapping`", "The edits of `arithmetic`"),
-    ("an old text that is nowhere", "crates/picture/must-fail/plane_6.edit", r"old: +5 =>", "old: the 5 =>"),
-    ("an old text that is not the only one", "crates/picture/must-fail/plane_6.edit", r"(?m)^old: .*$", "old: Plane"),
-    ("an edit that replaces nothing", "crates/picture/must-fail/plane_6.edit", r"(?m)^new:.*$", ""),
-    ("a crate missing", README, r"\n\|[^\n]*`plane_values`[^\n]*", ""),
-    ("a crate missing among others", README, r"`c_direct`, ", ""),
-    ("a crate twice", README, r"(\n\|[^\n]*`plane_values`[^\n]*)", r"\1\1"),
-    ("a crate below one that rests on it", README, r"(\n\|[^\n]*`lines`[^\n]*)(\n\|[^\n]*`plane_values`[^\n]*)", r"\2\1"),
+    ("another definition", TRACE, r"spec_picture\.Size\.size_legal", "spec_picture.Size.legal"),
+    ("another file of laws", TRACE, r"spec_picture\.Refusals\.direct-order", "spec_picture.Calls.direct-order"),
+    ("another module", TRACE, r"row_steps::step::add_gain", "row_steps::slanted::add_gain"),
+    ("another edit", TRACE, r"spec_picture/plane_6`", "spec_picture/plane_7`"),
+    ("an edit of a crate that is gone", TRACE, r"The edits of `arithmetic`", "The edits of `wrapping`"),
+    ("an old text that is nowhere", "crates/spec_picture/must-fail/plane_6.edit", r"old: +5 =>", "old: the 5 =>"),
+    ("an old text that is not the only one", "crates/spec_picture/must-fail/plane_6.edit", r"(?m)^old: .*$", "old: Plane"),
+    ("an edit that replaces nothing", "crates/spec_picture/must-fail/plane_6.edit", r"(?m)^new:.*$", ""),
+    ("a crate missing", ARCHITECTURE, r"\n\| `plane_rows`[^\n]*", ""),
+    ("a crate twice", ARCHITECTURE, r"(\n\| `plane_rows`[^\n]*)", r"\1\1"),
+    ("a crate below one that rests on it", ARCHITECTURE, r"(\n\| `statistics`[^\n]*)(\n\| `steady_search`[^\n]*)", r"\2\1"),
     ("a path that is not there", README, r"samples/hill\.txt", "samples/valley.txt"),
     ("a link that leads nowhere", README, r"\]\(docs/TRACE\.md\)", "](TRACE.md)"),
-    ("a function that is not there", README, r"`direct::direct_sum`", "`direct::direct_sums`"),
+    ("a function that is not there", README, r"`direct_sum::direct_sum`", "`direct_sum::direct_sums`"),
     ("a function of a crate that is gone", README, r"`smoothing::smooth`", "`smooth::smooth`"),
     ("a crate too many", CRATES, r"\Z", "\nmedians: numbers\n"),
-    ("a crate missing", CRATES, r"(?m)^plane_values:.*$", ""),
-    ("a crate that rests on one below it", CRATES, r"(?m)^clip:", "clip: panel_text"),
-    ("a path in a comment of the code", "crates/checks/src/lib.rt", r"\A", "// crates/spec_picture/specs has them.\n"),
-    ("a path in a comment of a definition", "crates/picture/specs/Size.antt", r"\A", "-- crates/spec_picture/specs has them.\n"),
+    ("a crate missing", CRATES, r"(?m)^plane_rows:.*$", ""),
+    ("a crate that rests on one below it", CRATES, r"(?m)^windows:", "windows: panel_text"),
+    ("a path in a comment of the code", "crates/checks/src/lib.rt", r"\A", "// crates/picture/specs has them.\n"),
+    ("a path in a comment of a definition", "crates/spec_picture/specs/Size.antt", r"\A", "-- crates/picture/specs has them.\n"),
     ("a law in the first line of an edit", "crates/numbers/must-fail/toward_zero.edit", r"`floor-law`", "`floors-law`"),
-    ("a path in the first line of an edit", "crates/picture/must-fail/plane_6.edit", r"\A", "# crates/spec_picture/specs has them.\n"),
+    ("a path in the first line of an edit", "crates/spec_picture/must-fail/plane_6.edit", r"\A", "# crates/picture/specs has them.\n"),
 ]
 
 # Which file is called what else, or is added.
 MOVES = [
-    ("an edit renamed", "crates/picture/must-fail/plane_6.edit", "crates/picture/must-fail/plane_7.edit"),
-    ("an edit that no line names", None, "crates/picture/must-fail/plane_7.edit"),
-    ("a file of definitions renamed", "crates/picture/specs/Size.antt", "crates/picture/specs/Sizes.antt"),
-    ("a module renamed", "crates/steps/src/step.rt", "crates/steps/src/gain.rt"),
+    ("an edit renamed", "crates/spec_picture/must-fail/plane_6.edit", "crates/spec_picture/must-fail/plane_7.edit"),
+    ("an edit that no line names", None, "crates/spec_picture/must-fail/plane_7.edit"),
+    ("a file of definitions renamed", "crates/spec_picture/specs/Size.antt", "crates/spec_picture/specs/Sizes.antt"),
+    ("a module renamed", "crates/row_steps/src/step.rt", "crates/row_steps/src/gain.rt"),
     ("a sample renamed", "samples/hill.txt", "samples/valley.txt"),
 ]
 

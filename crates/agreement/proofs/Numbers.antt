@@ -7,7 +7,7 @@ use mathlib.Core.Option.{none}
 use native.Mathlib.Omega.{arith}
 use lib.Dec.{T, ltb, ltb→lt}
 use Rattle.numbers.proofs.Tests.{and_left, and_right}
-use Rattle.picture.specs.Refusal.{Check, ◌when◌, refusal}
+use Rattle.spec_picture.specs.Refusal.{Check, ◌when◌, refusal}
 use Rattle.agreement.specs.Numbers.{number_of}
 
 abbrev pub numbered : List Check → Bool

@@ -11,25 +11,25 @@ use lib.ListN.{length, get_or}
 use lib.IntN.{ℤ, pos}
 use Rattle.numbers.specs.Grid.{grid, rows_from}
 use Rattle.numbers.proofs.Grids.{length-rows, get_or-grid, rows_join}
-use Rattle.picture.specs.Refusal.{Filling, answered, refusal, ◌when◌}
-use Rattle.picture.specs.Window.{Shape, shape_of}
-use Rattle.picture.specs.Size.{cells}
-use Rattle.picture.specs.Picture.{Levels, Inputs, plane_at}
-use Rattle.picture.specs.Conditions.{accepted, input_checks, check7, check8}
-use Rattle.picture.specs.Direct.{window_sum, direct_sum}
-use Rattle.picture.proofs.Refusals.{InLimits, in-limits, accepted-has, direct-answers, pass_all, none-head, outcome-none, pass, no-checks}
-use Rattle.picture.proofs.Planes.{plane-bound}
-use Rattle.cumulative.specs.Table.{build_call, read_call}
-use Rattle.cumulative.proofs.Reading.{build-fills, read-answers}
-use Rattle.session.specs.Rows.{RowOutcome, row_call, row_result, row_checks}
-use Rattle.session.proofs.Steps.{Ready, strip-done}
-use Rattle.statistics.specs.declared.Sums.{Sums}
-use Rattle.statistics.specs.SixSums.{six_sums, impossible, unless9}
-use Rattle.statistics.specs.Moments.{unless_empty, mean, variance, deviation, mean_call, variance_call, deviation_call}
-use Rattle.statistics.specs.Voice.{voice, voice_call}
-use Rattle.statistics.specs.Coefficient.{coefficient, coefficient_call}
-use Rattle.statistics.proofs.Possible.{sums-possible}
-use Rattle.statistics.proofs.Values.{coefficient_range}
+use Rattle.spec_picture.specs.Refusal.{Filling, answered, refusal, ◌when◌}
+use Rattle.spec_picture.specs.Window.{Shape, shape_of}
+use Rattle.spec_picture.specs.Size.{cells}
+use Rattle.spec_picture.specs.Picture.{Levels, Inputs, plane_at}
+use Rattle.spec_picture.specs.Conditions.{accepted, input_checks, check7, check8}
+use Rattle.spec_picture.specs.Direct.{window_sum, direct_sum}
+use Rattle.spec_picture.proofs.Refusals.{InLimits, in-limits, accepted-has, direct-answers, pass_all, none-head, outcome-none, pass, no-checks}
+use Rattle.spec_picture.proofs.Planes.{plane-bound}
+use Rattle.spec_table.specs.Table.{build_call, read_call}
+use Rattle.spec_table.proofs.Reading.{build-fills, read-answers}
+use Rattle.spec_rows.specs.Rows.{RowOutcome, row_call, row_result, row_checks}
+use Rattle.spec_rows.proofs.Steps.{Ready, strip-done}
+use Rattle.spec_statistics.specs.declared.Sums.{Sums}
+use Rattle.spec_statistics.specs.SixSums.{six_sums, impossible, unless9}
+use Rattle.spec_statistics.specs.Moments.{unless_empty, mean, variance, deviation, mean_call, variance_call, deviation_call}
+use Rattle.spec_statistics.specs.Voice.{voice, voice_call}
+use Rattle.spec_statistics.specs.Coefficient.{coefficient, coefficient_call}
+use Rattle.spec_statistics.proofs.Possible.{sums-possible}
+use Rattle.spec_statistics.proofs.Values.{coefficient_range}
 use Rattle.agreement.specs.Agreement.{Call, Progress, fresh, count_of, rows_of, next, after, Agreement, Demand3}
 
 answers : {A : Type 0} (z : Sums) (r : A) → impossible z ≡ false → unless9 z r ≡ answered r

@@ -13,17 +13,17 @@
 -- Assumes nothing.
 use Rattle.std.specs.Prelude.{◌≡◌, ℕ, ◌+◌, ◌*◌, ◌≤◌, ◌<◌, List, [], ◌∷◌, ◌++◌, length, get_or, ℤ, pos, nat_abs}
 use Rattle.std.proofs.Math.Option.{Option, none, some}
-use Rattle.picture.specs.Refusal.{answered, refusal}
-use Rattle.picture.specs.Picture.{Levels, Inputs}
-use Rattle.picture.specs.Size.{cells}
-use Rattle.picture.specs.Conditions.{accepted}
-use Rattle.picture.specs.Direct.{direct_sum, direct_call}
-use Rattle.cumulative.specs.Table.{build_call, read_call}
-use Rattle.session.specs.Rows.{RowOutcome, row_call, row_checks}
-use Rattle.statistics.specs.SixSums.{six_sums}
-use Rattle.statistics.specs.Moments.{unless_empty, mean, variance, deviation, mean_call, variance_call, deviation_call}
-use Rattle.statistics.specs.Voice.{voice, voice_call}
-use Rattle.statistics.specs.Coefficient.{coefficient, coefficient_call, value}
+use Rattle.spec_picture.specs.Refusal.{answered, refusal}
+use Rattle.spec_picture.specs.Picture.{Levels, Inputs}
+use Rattle.spec_picture.specs.Size.{cells}
+use Rattle.spec_picture.specs.Conditions.{accepted}
+use Rattle.spec_picture.specs.Direct.{direct_sum, direct_call}
+use Rattle.spec_table.specs.Table.{build_call, read_call}
+use Rattle.spec_rows.specs.Rows.{RowOutcome, row_call, row_checks}
+use Rattle.spec_statistics.specs.SixSums.{six_sums}
+use Rattle.spec_statistics.specs.Moments.{unless_empty, mean, variance, deviation, mean_call, variance_call, deviation_call}
+use Rattle.spec_statistics.specs.Voice.{voice, voice_call}
+use Rattle.spec_statistics.specs.Coefficient.{coefficient, coefficient_call, value}
 
 -- "its request and its output area are its own"
 pub record Call : Type 0 where

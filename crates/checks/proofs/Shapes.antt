@@ -6,12 +6,12 @@ use mathlib.Core.Bool.{false, not}
 use mathlib.Core.List.{[], ◌∷◌}
 use mathlib.Core.Option.{some}
 use lib.Dec.{T}
-use Rattle.picture.specs.Refusal.{◌when◌, refusal}
-use Rattle.picture.specs.declared.Window.{Window}
-use Rattle.picture.specs.Window.{window, window_legal}
-use Rattle.picture.specs.Shape.{is_shape}
-use Rattle.picture.specs.Conditions.{check3}
-use Rattle.picture.proofs.Refusals.{stop, unsound}
+use Rattle.spec_picture.specs.Refusal.{◌when◌, refusal}
+use Rattle.spec_picture.specs.declared.Window.{Window}
+use Rattle.spec_picture.specs.Window.{window, window_legal}
+use Rattle.spec_picture.specs.Shape.{is_shape}
+use Rattle.spec_picture.specs.Conditions.{check3}
+use Rattle.spec_picture.proofs.Refusals.{stop, unsound}
 
 not-legal : (s : ℕ) (w : Window) → T (not (is_shape s)) → window_legal (window s w.first w.second) ≡ false
 unfolding window_legal

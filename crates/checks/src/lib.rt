@@ -1,21 +1,25 @@
 // The first refusal of a call, from the conditions 1 to 6, or its inputs with what the checks have found.
-#![tactic(auto, unfolding(picture::specs::Refusal::refusal, picture::specs::Refusal::outcome))]
+#![tactic(auto, unfolding(spec_picture::specs::Refusal::refusal, spec_picture::specs::Refusal::outcome))]
+
+pub mod legal_sizes; // legal_sizes.rt: the limits of a size
+pub mod legal_windows; // legal_windows.rt: the limits of a window and of a shift
+pub mod levels; // levels.rt: what the type of a picture says of its levels
 
 ghost use Rattle.std.specs.Prelude.{◌≡◌, not, [], ◌∷◌};
 ghost use Rattle.std.proofs.Math.Option.{none};
-ghost use Rattle.picture.specs.Refusal.{◌when◌, refusal, outcome};
-ghost use Rattle.picture.specs.Answers.{number, refused_by, outcome_by};
-ghost use Rattle.picture.specs.Picture.{source};
-ghost use Rattle.picture.specs.Given.{inputs_of};
-ghost use Rattle.picture.specs.Checked.{given, pictures, checked_pictures, checked_source, checked_inputs};
-ghost use Rattle.picture.specs.Conditions.{check3, picture_checks, input_checks};
-ghost use Rattle.picture.specs.Direct.{direct_checks};
+ghost use Rattle.spec_picture.specs.Refusal.{◌when◌, refusal, outcome};
+ghost use Rattle.spec_picture.specs.Answers.{number, refused_by, outcome_by};
+ghost use Rattle.spec_picture.specs.Picture.{source};
+ghost use Rattle.spec_picture.specs.Given.{inputs_of};
+ghost use Rattle.spec_picture.specs.Checked.{given, pictures, checked_pictures, checked_source, checked_inputs};
+ghost use Rattle.spec_picture.specs.Conditions.{check3, picture_checks, input_checks};
+ghost use Rattle.spec_picture.specs.Direct.{direct_checks};
 ghost use Rattle.checks.specs.Passed.{plane_checks};
 
-use legal_sizes::{cell_inside, is_full, size_legal};
-use legal_windows::{numbers_legal, shift_legal};
-use levels::known;
-use picture::{
+use crate::legal_sizes::{cell_inside, is_full, size_legal};
+use crate::legal_windows::{numbers_legal, shift_legal};
+use crate::levels::known;
+use spec_picture::{
     Cell, CheckedInputs, CheckedPictures, CheckedSource, CheckedWindow, Inputs, Plane, Refusal,
     Shape, Shift, Size, Window,
 };
@@ -43,7 +47,7 @@ pub fn check_pictures<'a>(
     Ok(CheckedPictures { size, f, g })
 }
 
-// 3. A function and no `TryFrom<Window>`, which would have to stand beside the type in `picture`, below the tests of the limits; and so `check_inputs`.
+// 3. A function and no `TryFrom<Window>`, which would have to stand beside the type in `spec_picture`, below the tests of the limits; and so `check_inputs`.
 pub fn check_window(window: Window) -> Result<CheckedWindow, Refusal>
     ensures { outcome_by given result ≡ outcome (refusal (check3 window ∷ [])) window }
 {

@@ -3,9 +3,9 @@
 use Rattle.std.proofs.Common.{◌≡◌, ◌∙◌, sym, ap, subst, ℕ, ◌≤◌, ◌<◌, Bool, true, false, List, map, [], ◌++◌, length, take, drop, ltb, lt-ltb, ltb-false, ltb-true, refl, le-ltb, arith, Option, Some, None, IfSome, Result, Ok, Err, OnOk, append-nil, length-append, length-take-le, take_all}
 use Rattle.std.specs.Io.KnownBytes.{Consumes, IsAtEnd, Appends}
 use lib.Seq.{take-append-le}
-use Rattle.picture.specs.Refusal.{refused}
-use Rattle.panel_language.specs.Text.{runs, number}
-use Rattle.panel_language.specs.Panel.{parsed, sized, shown, panel}
+use Rattle.spec_picture.specs.Refusal.{refused}
+use Rattle.spec_panel.specs.Text.{runs, number}
+use Rattle.spec_panel.specs.Panel.{parsed, sized, shown, panel}
 use Rattle.panel_text.specs.Rendered.{Rendering, rendered}
 
 -- a text that is too long is refused, whatever it holds

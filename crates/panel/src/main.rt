@@ -3,7 +3,7 @@
 
 ghost use Rattle.std.specs.Prelude.{◌≡◌, ◌≤◌, ◌<◌, length, take, OnOk, IfOk, IfSome};
 ghost use Rattle.std.specs.Io.KnownBytes.{Consumes, IsAtEnd, Appends};
-ghost use Rattle.panel_language.specs.Panel.{panel};
+ghost use Rattle.spec_panel.specs.Panel.{panel};
 
 use std::io;
 use std::io::{Read, Write};

@@ -13,21 +13,21 @@ use lib.ListN.{length, drop, length-append, length-drop}
 use lib.IntN.{ℤ}
 use mir.Syntax.{w16}
 use mir.Val.{SFits}
-use Rattle.picture.specs.Refusal.{Outcome, refused, answered}
-use Rattle.picture.specs.declared.Size.{Size}
-use Rattle.picture.specs.Size.{size, cells}
-use Rattle.picture.specs.declared.Window.{Window}
-use Rattle.picture.specs.Window.{window, window_legal}
-use Rattle.picture.proofs.Refusals.{in-limits}
-use Rattle.smoothed.specs.Smoothing.{smoothed}
-use Rattle.smoothed.proofs.Means.{mean-level, smoothed-at}
-use Rattle.panel_language.specs.Text.{space, line_feed, runs, number, decimal, printed}
-use Rattle.panel_language.specs.Panel.{Drawing, count_of, panel_size, levels_of, framed, filled, sized, parsed, line_of, lines_of, shown, panel}
-use Rattle.panel_print.specs.Print.{value_at}
+use Rattle.spec_picture.specs.Refusal.{Outcome, refused, answered}
+use Rattle.spec_picture.specs.declared.Size.{Size}
+use Rattle.spec_picture.specs.Size.{size, cells}
+use Rattle.spec_picture.specs.declared.Window.{Window}
+use Rattle.spec_picture.specs.Window.{window, window_legal}
+use Rattle.spec_picture.proofs.Refusals.{in-limits}
+use Rattle.spec_smoothing.specs.Smoothing.{smoothed}
+use Rattle.spec_smoothing.proofs.Means.{mean-level, smoothed-at}
+use Rattle.spec_panel.specs.Text.{space, line_feed, runs, number, decimal, printed}
+use Rattle.spec_panel.specs.Panel.{Drawing, count_of, panel_size, levels_of, framed, filled, sized, parsed, line_of, lines_of, shown, panel}
+use Rattle.panel_text.specs.Print.{value_at}
 use Rattle.panel_text.specs.Rendered.{Rendering, rendered}
-use Rattle.panel_language.proofs.Legal.{Legal, parsed-legal}
-use Rattle.panel_print.proofs.Bytes.{few-digits, level-bytes}
-use Rattle.panel_read.proofs.Drawings.{cells-few}
+use Rattle.spec_panel.proofs.Legal.{Legal, parsed-legal}
+use Rattle.panel_text.proofs.Bytes.{few-digits, level-bytes}
+use Rattle.panel_text.proofs.Drawings.{cells-few}
 use Rattle.panel_text.proofs.Shows.{in_size}
 
 -- ---- a refusal's number has at most two digits

@@ -12,24 +12,24 @@ use lib.ListN.{length, take, drop, length-append}
 use lib.Seq.{take_at, length-take-le}
 use lib.IntN.{ℤ}
 use Rattle.numbers.proofs.Tests.{and_left, not-of}
-use Rattle.picture.specs.Refusal.{Filling, refusal}
-use Rattle.picture.specs.declared.Size.{Size}
-use Rattle.picture.specs.Size.{size_legal, cells}
-use Rattle.picture.specs.declared.Window.{Window}
-use Rattle.picture.specs.Window.{window_legal}
-use Rattle.picture.proofs.Refusals.{pass, no-checks, length-passes, in-limits}
-use Rattle.smoothed.specs.Smoothing.{smoothed, smooth_checks, smooth_call}
-use Rattle.smoothed.proofs.Means.{smooth-writes}
+use Rattle.spec_picture.specs.Refusal.{Filling, refusal}
+use Rattle.spec_picture.specs.declared.Size.{Size}
+use Rattle.spec_picture.specs.Size.{size_legal, cells}
+use Rattle.spec_picture.specs.declared.Window.{Window}
+use Rattle.spec_picture.specs.Window.{window_legal}
+use Rattle.spec_picture.proofs.Refusals.{pass, no-checks, length-passes, in-limits}
+use Rattle.spec_smoothing.specs.Smoothing.{smoothed, smooth_checks, smooth_call}
+use Rattle.spec_smoothing.proofs.Means.{smooth-writes}
 use Rattle.std.specs.Prelude.{Result, Ok, Err}
-use Rattle.picture.specs.Answers.{number}
-use Rattle.picture.specs.declared.Refusal.{Refusal}
-use Rattle.panel_language.specs.Panel.{panel_size, lines_of, refused_line, parsed, shown, panel}
-use Rattle.panel_read.specs.Read.{drawn}
-use Rattle.panel_print.specs.Print.{Fitted, value_at, LinesRoom}
+use Rattle.spec_picture.specs.Answers.{number}
+use Rattle.spec_picture.specs.declared.Refusal.{Refusal}
+use Rattle.spec_panel.specs.Panel.{panel_size, lines_of, refused_line, parsed, shown, panel}
+use Rattle.panel_text.specs.Read.{drawn}
+use Rattle.panel_text.specs.Print.{Fitted, value_at, LinesRoom}
 use Rattle.panel_text.specs.Shown.{Showable}
 use Rattle.panel_text.specs.Rendered.{Rendering, rendered}
-use Rattle.panel_language.proofs.Legal.{parsed-legal}
-use Rattle.panel_read.proofs.Drawings.{cells-few, cells-part}
+use Rattle.spec_panel.proofs.Legal.{parsed-legal}
+use Rattle.panel_text.proofs.Drawings.{cells-few, cells-part}
 
 pub in_size : (z : Size) → T (panel_size z) → T (size_legal z)
 unfolding panel_size

@@ -1,7 +1,7 @@
 -- What rendering leaves: the count of the bytes written, and the area that it was lent.
 -- Assumes nothing.
 use Rattle.std.specs.Prelude.{ℕ, true, false, List, ◌++◌, ltb, length, drop}
-use Rattle.panel_language.specs.Panel.{panel}
+use Rattle.spec_panel.specs.Panel.{panel}
 
 pub record Rendering : Type 0 where
   pub count : ℕ

@@ -1,15 +1,21 @@
 // From one row to the next of a diamond's or hexagon's window sums, by the slopes of its edges, which move on with it.
 #![tactic(auto)]
 
+pub mod flat; // flat.rt: the flat parts of the edges
+pub mod kept_slopes; // kept_slopes.rt: the slopes as they are kept: definitions and laws
+pub mod slope_starts; // slope_starts.rt: the slopes where a call begins
+pub mod edges; // edges.rt: many rows
+
 ghost use Rattle.std.specs.Prelude.{◌≡◌, ◌≤◌, map};
-ghost use Rattle.picture.specs.Plane.{plane_number};
-ghost use Rattle.kept_slopes.specs.Edges.{edged, TakeAsked, LeavingAsked, LeavingDone};
+ghost use Rattle.spec_picture.specs.Plane.{plane_number};
+ghost use Rattle.slope_rows.specs.Edges.{edged, TakeAsked, LeavingAsked, LeavingDone};
 
-use kept_slopes::SlantedInputs;
-use leans::Slope;
-use padding::PlaneValue;
+use crate::kept_slopes::SlantedInputs;
+use slope_loops::leans;
+use slope_loops::leans::Slope;
+use slope_loops::padding::PlaneValue;
 
-// The rows and the slopes are arrays apart here, and no struct: `edges::rows::rows_from` says why.
+// The rows and the slopes are arrays apart here, and no struct: `slope_rows::edges::rows::rows_from` says why.
 
 // From row i to i+1, in the m'th row of a call: the flat parts and the slopes come into the work area. Where a flat part is one column, a tip,
 // the row that enters there stands in a, and the one that leaves in c.
@@ -38,7 +44,7 @@ fn take_in<S: Slope>(
 }
 
 // From row i to i+1, in the m'th row of a call: the work area moves on, and so do the slopes; c has the row that leaves in the middle.
-#[tactic(auto, unfolding(picture::specs::Size::size_legal))]
+#[tactic(auto, unfolding(spec_picture::specs::Size::size_legal))]
 pub fn row<S: Slope>(
     slanted: &SlantedInputs<'_>,
     i: usize,

@@ -1,11 +1,11 @@
 -- What reading goes on with, once it is checked.
 -- Assumes nothing.
 use Rattle.std.specs.Prelude.{List, ℤ}
-use Rattle.picture.specs.declared.Size.{Size}
-use Rattle.picture.specs.declared.Window.{Window}
-use Rattle.picture.specs.declared.checked.CheckedWindow.{CheckedWindow}
-use Rattle.picture.specs.Checked.{given}
-use Rattle.corners.specs.declared.Table.{Table}
+use Rattle.spec_picture.specs.declared.Size.{Size}
+use Rattle.spec_picture.specs.declared.Window.{Window}
+use Rattle.spec_picture.specs.declared.checked.CheckedWindow.{CheckedWindow}
+use Rattle.spec_picture.specs.Checked.{given}
+use Rattle.table.specs.declared.corners.Table.{Table}
 
 -- a table with its size, and a window
 pub record Reading : Type 0 where

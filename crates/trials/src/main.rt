@@ -1,19 +1,20 @@
 // Runs the library's operations beside a simple rival and prints, for each group of trials, how many things it compared, how many
-// of them differed, and a checksum of what the library gave.
+// of them differed, and a checksum of what the library gave. Each operation is tried with every shape and plane, on built and foreign contents; calls that are
+// refused for other reasons than document 01's limits are compared by the tests from C and Rust, and so is panel's text.
 #![tactic(auto)]
 
-mod texts; // texts.rt: panel's texts
+mod limits; // limits.rt: sizes and windows at their limits
+mod sums; // sums.rt: direct sums and tables
+mod sessions; // sessions.rt: row sessions
+mod six_sums; // six_sums.rt: mean, variance, deviation, voice and coefficient
+mod smoothed; // smoothed.rt: smoothing and the steady search
 
 use std::io;
 
 fn main(rt: HostRuntime) -> io::Result<()> {
-    sum_trials::limits::run(&rt)?;
-    sum_trials::direct_sums::run(&rt)?;
-    sum_trials::tables::run(&rt)?;
-    smoothing_trials::run(&rt)?;
-    statistics_trials::six_sums::run(&rt)?;
-    session_trials::run(&rt)?;
-    refusal_trials::run(&rt)?;
-    statistics_trials::impossible::run(&rt)?;
-    texts::run(&rt)
+    limits::run(&rt)?;
+    sums::run(&rt)?;
+    sessions::run(&rt)?;
+    six_sums::run(&rt)?;
+    smoothed::run(&rt)
 }

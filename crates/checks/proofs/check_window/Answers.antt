@@ -1,5 +1,5 @@
 -- `checks::check_window` meets its contract. Assumes nothing.
-use Rattle.picture.proofs.Refusals.{refuses, refused-tells}
+use Rattle.spec_picture.proofs.Refusals.{refuses, refused-tells}
 use Rattle.checks.proofs.Shapes.{no-shape}
 use Rattle.checks.proofs.check_window.Goals as goal
 

@@ -1,10 +1,10 @@
 -- `slope_rows::row` meets its contract. Assumes nothing.
 use Rattle.std.proofs.Common.{rules}
-use Rattle.picture.specs.Picture.{plane_at}
-use Rattle.picture.specs.Checked.{checked_source}
-use Rattle.picture.proofs.Planes.{plane-beside}
-use Rattle.kept_slopes.proofs.Kept.{blank_of, slopes-next}
-use Rattle.kept_slopes.proofs.Asks.{row-limits, rises-slide, falls-slide}
+use Rattle.spec_picture.specs.Picture.{plane_at}
+use Rattle.spec_picture.specs.Checked.{checked_source}
+use Rattle.spec_picture.proofs.Planes.{plane-beside}
+use Rattle.slope_rows.proofs.Kept.{blank_of, slopes-next}
+use Rattle.slope_rows.proofs.Asks.{row-limits, rises-slide, falls-slide}
 use Rattle.slope_rows.proofs.row.Goals as goal
 
 pub slide-requires : goal.slide-requires

@@ -2,11 +2,11 @@
 use mathlib.Core.Path.{◌∙◌}
 use Rattle.std.proofs.Common.{rules}
 use native.Mathlib.Omega.{arith}
-use Rattle.picture.specs.Picture.{plane_at}
-use Rattle.picture.specs.Checked.{checked_source}
-use Rattle.picture.proofs.Planes.{plane-past, plane-beside}
-use Rattle.kept_slopes.proofs.Kept.{work-edged, work-tipped}
-use Rattle.kept_slopes.proofs.Asks.{row-limits, flat-asked, finish-asked, tips-asked}
+use Rattle.spec_picture.specs.Picture.{plane_at}
+use Rattle.spec_picture.specs.Checked.{checked_source}
+use Rattle.spec_picture.proofs.Planes.{plane-past, plane-beside}
+use Rattle.slope_rows.proofs.Kept.{work-edged, work-tipped}
+use Rattle.slope_rows.proofs.Asks.{row-limits, flat-asked, finish-asked, tips-asked}
 use Rattle.slope_rows.proofs.take_in.Goals as goal
 
 pub finish_tips-requires : goal.finish_tips-requires

@@ -1,0 +1,2 @@
+pub mod Reciprocals
+pub mod Same

@@ -1,0 +1,8 @@
+// What the language lacks, or lacks proofs of: wrapping sums, products past 64 bits, reciprocals.
+#![tactic(auto)]
+
+pub mod wrapping; // wrapping.rt: sums and differences that wrap at 64 bits
+pub mod machine; // machine.rt: the product of two levels, the magnitude of a number
+pub mod wide; // wide.rt: products past 64 bits
+pub mod wide_order; // wide_order.rt: their order
+pub mod quotients; // quotients.rt: the nearest quotient, by a reciprocal

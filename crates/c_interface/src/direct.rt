@@ -1,0 +1,47 @@
+// The C interface to the direct sum.
+
+ghost use Rattle.spec_picture.specs.Size.{size};
+ghost use Rattle.spec_picture.specs.Window.{window};
+ghost use Rattle.spec_picture.specs.Picture.{shift, inputs};
+ghost use Rattle.spec_picture.specs.Direct.{direct_call};
+ghost use Rattle.spec_c.specs.Reply.{with_value, reply};
+ghost use Rattle.spec_c.specs.Leaves.{CallLeaves};
+
+use crate::replies::hand_back;
+use local_statistics::{Cell, Inputs, Shift, Size, Source, Window, direct_sum};
+
+// `direct_sum::direct_sum`: the sum of a plane over the window on a cell.
+#[unsafe(no_mangle)]
+pub extern "C" fn ls_direct_sum(
+    rows: usize,
+    columns: usize,
+    f: &[i16],
+    g: &[i16],
+    shape: u32,
+    first: i32,
+    second: i32,
+    down: i32,
+    right: i32,
+    plane: u32,
+    row: usize,
+    column: usize,
+    sum: &mut i64,
+) -> i32
+    ensures { CallLeaves (reply with_value (direct_call (inputs (size rows columns) f.now g.now (window shape first second) (shift down right) plane) row column)) sum.old result sum.new }
+{
+    let inputs = Inputs {
+        source: Source {
+            size: Size { rows, columns },
+            f,
+            g,
+            shift: Shift { down, right },
+            plane,
+        },
+        window: Window {
+            shape,
+            first,
+            second,
+        },
+    };
+    hand_back(direct_sum(&inputs, Cell { row, column }), sum)
+}

@@ -1,0 +1,48 @@
+// The C interface to the row session.
+
+ghost use Rattle.spec_picture.specs.Size.{size};
+ghost use Rattle.spec_picture.specs.Window.{window};
+ghost use Rattle.spec_picture.specs.Picture.{shift, inputs};
+ghost use Rattle.spec_rows.specs.Rows.{row_call};
+ghost use Rattle.spec_c.specs.Leaves.{RowCallLeaves};
+
+use crate::replies::hand_back;
+use local_statistics::{Inputs, Shift, Size, Source, Window, rows_at};
+
+// `row_session::Session::rows`: the sums of the next rows of a session, which in C is its position alone.
+#[unsafe(no_mangle)]
+pub extern "C" fn ls_rows(
+    position: &mut usize,
+    rows: usize,
+    columns: usize,
+    f: &[i16],
+    g: &[i16],
+    shape: u32,
+    first: i32,
+    second: i32,
+    down: i32,
+    right: i32,
+    plane: u32,
+    request: usize,
+    work: &mut [i64],
+    out: &mut [i64],
+    granted: &mut usize,
+) -> i32
+    ensures { RowCallLeaves (row_call (inputs (size rows columns) f.now g.now (window shape first second) (shift down right) plane) position.old request work.old out.old) granted.old result granted.new position.new work.new out.new }
+{
+    let inputs = Inputs {
+        source: Source {
+            size: Size { rows, columns },
+            f,
+            g,
+            shift: Shift { down, right },
+            plane,
+        },
+        window: Window {
+            shape,
+            first,
+            second,
+        },
+    };
+    hand_back(rows_at(&inputs, position, request, work, out), granted)
+}

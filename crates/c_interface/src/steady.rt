@@ -1,0 +1,38 @@
+// The C interface to the search for the first steady cell.
+
+ghost use Rattle.spec_picture.specs.Size.{size, cell};
+ghost use Rattle.spec_picture.specs.Window.{window};
+ghost use Rattle.spec_picture.specs.Picture.{shift};
+ghost use Rattle.spec_smoothing.specs.Steady.{steady_call};
+ghost use Rattle.spec_c.specs.Reply.{reply, of_cell};
+ghost use Rattle.spec_c.specs.Leaves.{CallLeaves};
+
+use crate::replies;
+use local_statistics::{Shift, Size, Window, steady};
+
+// `steady_search::steady`: the first steady cell in row order.
+#[unsafe(no_mangle)]
+pub extern "C" fn ls_steady(
+    rows: usize,
+    columns: usize,
+    f: &[i16],
+    g: &[i16],
+    shape: u32,
+    first: i32,
+    second: i32,
+    down: i32,
+    right: i32,
+    row: &mut usize,
+    column: &mut usize,
+) -> i32
+    ensures { CallLeaves (reply of_cell (steady_call (size rows columns) f.now g.now (window shape first second) (shift down right))) (cell row.old column.old) result (cell row.new column.new) }
+{
+    let size = Size { rows, columns };
+    let window = Window {
+        shape,
+        first,
+        second,
+    };
+    let shift = Shift { down, right };
+    replies::found(steady(size, f, g, window, shift), row, column)
+}

@@ -1,0 +1,61 @@
+// The C interface to the cumulative table.
+
+ghost use Rattle.std.specs.Prelude.{◌≡◌};
+ghost use Rattle.spec_picture.specs.Size.{size};
+ghost use Rattle.spec_picture.specs.Window.{window};
+ghost use Rattle.spec_picture.specs.Picture.{shift, source};
+ghost use Rattle.spec_table.specs.Table.{build_call, read_call};
+ghost use Rattle.spec_c.specs.Reply.{with_value, status, reply};
+ghost use Rattle.spec_c.specs.Leaves.{CallLeaves};
+
+use crate::replies::{done, hand_back};
+use local_statistics::{Cell, Shift, Size, Source, Window, build, read};
+
+// `table::build`: fills the area with the cumulative table of a plane.
+#[unsafe(no_mangle)]
+pub extern "C" fn ls_build(
+    rows: usize,
+    columns: usize,
+    f: &[i16],
+    g: &[i16],
+    down: i32,
+    right: i32,
+    plane: u32,
+    table: &mut [i64],
+) -> i32
+    ensures status { result ≡ status (reply with_value (build_call (source (size rows columns) f.now g.now (shift down right) plane) table.old).answer) }
+    ensures area { table.new ≡ (build_call (source (size rows columns) f.now g.now (shift down right) plane) table.old).area }
+{
+    let source = Source {
+        size: Size { rows, columns },
+        f,
+        g,
+        shift: Shift { down, right },
+        plane,
+    };
+    done(build(&source, table))
+}
+
+// `table::read`: the window sum on a cell, by the corners of a table with any contents.
+#[unsafe(no_mangle)]
+pub extern "C" fn ls_read(
+    rows: usize,
+    columns: usize,
+    table: &[i64],
+    shape: u32,
+    first: i32,
+    second: i32,
+    row: usize,
+    column: usize,
+    sum: &mut i64,
+) -> i32
+    ensures { CallLeaves (reply with_value (read_call (size rows columns) table.now (window shape first second) row column)) sum.old result sum.new }
+{
+    let size = Size { rows, columns };
+    let window = Window {
+        shape,
+        first,
+        second,
+    };
+    hand_back(read(size, table, window, Cell { row, column }), sum)
+}

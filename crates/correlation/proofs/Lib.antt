@@ -1,2 +1,0 @@
-pub mod Largest
-pub mod Bits

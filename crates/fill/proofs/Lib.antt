@@ -1,2 +1,0 @@
-pub mod LevelRows
-pub mod TableRows

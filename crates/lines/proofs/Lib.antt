@@ -1,2 +1,0 @@
-pub mod LineValues
-pub mod Exchanges

@@ -1,2 +1,0 @@
-pub mod BlockMeans
-mod Kept

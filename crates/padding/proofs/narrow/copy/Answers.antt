@@ -1,7 +1,0 @@
--- `padding::narrow::copy` meets its contract. Assumes nothing.
-use mathlib.Core.Path.{refl, ◌∙◌}
-use Rattle.numbers.proofs.Writes.{is-tabulate}
-use Rattle.padding.proofs.narrow.copy.Goals as goal
-
-pub returns : goal.returns
-returns c = c.copy_from_slice.ensures.after ∙ is-tabulate _ _ _ c.requires (λ k h. refl)

@@ -1,6 +1,0 @@
--- What the loops of `panel_print::lines` keep. Assumes nothing.
-use Rattle.panel_print.proofs.Prints.{LinesUpto}
-use Rattle.panel_print.proofs.lines.Given as goal
-
-abbrev pub invariant-loop-i : goal.invariant-loop-i
-invariant-loop-i l = LinesUpto l.size l.means l.initial.out l.out l.len l.i

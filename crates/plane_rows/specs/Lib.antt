@@ -1,0 +1,3 @@
+pub mod Lines
+pub mod Overlaps
+pub mod Parts

@@ -1,0 +1,57 @@
+// Which places count along one side of the picture under a shift.
+// For callers that have checked their inputs.
+
+ghost use Rattle.std.specs.Prelude.{◌≡◌};
+ghost use Rattle.plane_rows.specs.Overlaps.{Overlapping, ClipAsked, Clipped};
+
+mod overlap; // overlap.rt: the places that count along one side
+
+pub use overlap::Overlap;
+
+// Which of n places count where those of g are shifted by `by`.
+pub fn overlap_of(n: usize, by: i32) -> Overlap
+    ensures { Overlapping n by result }
+{
+    let far = by.unsigned_abs() as usize;
+    if n <= far {
+        return Overlap {
+            first: 0,
+            end: 0,
+            other: 0,
+        };
+    }
+    if by < 0 {
+        return Overlap {
+            first: far,
+            end: n,
+            other: 0,
+        };
+    }
+    Overlap {
+        first: 0,
+        end: n - far,
+        other: far,
+    }
+}
+
+// The places from lo up to hi among those that count.
+pub fn clipped(counting: Overlap, lo: usize, hi: usize) -> Overlap
+    requires { ClipAsked counting lo hi }
+    ensures { Clipped counting lo hi result }
+{
+    let first = counting.first;
+    let start = lo.max(first);
+    let end = hi.min(counting.end);
+    if end <= start {
+        return Overlap {
+            first: lo,
+            end: lo,
+            other: 0,
+        };
+    }
+    Overlap {
+        first: start,
+        end,
+        other: counting.other + (start - first),
+    }
+}

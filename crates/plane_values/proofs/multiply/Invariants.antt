@@ -1,8 +1,0 @@
--- What the loops of `plane_values::multiply` keep. Assumes nothing.
-use Prim.Native.Nat.{ℕ}
-use lib.IntN.{◌*ℤ◌}
-use Rattle.numbers.proofs.Writes.{at, Upto}
-use Rattle.plane_values.proofs.multiply.Given as goal
-
-abbrev pub invariant-loop-k : goal.invariant-loop-k
-invariant-loop-k l = Upto (λ (k : ℕ). at l.a k *ℤ at l.b k) l.initial.out l.out l.k

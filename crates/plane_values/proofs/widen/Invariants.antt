@@ -1,6 +1,0 @@
--- What the loops of `plane_values::widen` keep. Assumes nothing.
-use Rattle.numbers.proofs.Writes.{at, Upto}
-use Rattle.plane_values.proofs.widen.Given as goal
-
-abbrev pub invariant-loop-k : goal.invariant-loop-k
-invariant-loop-k l = Upto (at l.levels) l.initial.out l.out l.k

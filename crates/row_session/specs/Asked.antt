@@ -1,0 +1,16 @@
+-- What many rows ask.
+-- Room is asked in each contract, for the reason at `row_steps/specs/AreasAsked`.
+-- Assumes nothing.
+use Rattle.std.specs.Prelude.{◌≡◌, ℕ, ◌+◌, ◌*◌, ◌≤◌, List, length, ℤ}
+use Rattle.spec_picture.specs.Picture.{Inputs}
+
+-- rows of the picture from a position on, a work area, and room for those rows
+pub record ManyAsked (x : Inputs) (position n : ℕ) (work out : List ℤ) : Type 0 where
+  pub rows : position + n ≤ x.source.size.rows
+  pub room_work : length work ≡ x.source.size.columns
+  pub room : length out ≡ n * x.source.size.columns
+
+-- the same, and one row at least
+pub record SomeAsked (x : Inputs) (position n : ℕ) (work out : List ℤ) : Type 0 where
+  pub many : ManyAsked x position n work out
+  pub some : 1 ≤ n

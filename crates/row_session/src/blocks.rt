@@ -1,0 +1,18 @@
+// The window sums of a plane, block after block. A block has 16 rows, since many rows cost less than as many single ones.
+
+ghost use Rattle.spec_picture.specs.Checked.{checked_inputs};
+ghost use Rattle.row_session.specs.Blocks.{BlockAsked, Block};
+
+use crate::advance;
+use spec_picture::CheckedInputs;
+use windows::clip;
+
+// The sums of the rows of the block that begins at row i: 16 rows, or those up to the picture's last.
+pub fn next(i: usize, inputs: &CheckedInputs<'_>, work: &mut [i64], block: &mut [i64])
+    requires { BlockAsked (checked_inputs inputs.now) i work.old block.old }
+    ensures { Block (checked_inputs inputs.now) i work.new block.new }
+{
+    let columns = inputs.source.size.columns;
+    let n = clip::high(i, 15, inputs.source.size.rows) - i;
+    advance::many(i, inputs, n, work, &mut block[..n * columns]);
+}

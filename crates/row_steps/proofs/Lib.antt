@@ -1,0 +1,5 @@
+pub mod AcrossRows
+pub mod Columns
+pub mod EdgeRows
+pub mod RowCells
+pub mod Shapes

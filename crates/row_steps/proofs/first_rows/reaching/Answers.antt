@@ -1,0 +1,26 @@
+-- `row_steps::first_rows::reaching` meets its contract. Assumes nothing.
+use mathlib.Core.Path.{◌≡◌, ◌∙◌, ap}
+use Prim.Native.Nat.{ℕ}
+use native.Mathlib.Omega.{arith}
+use lib.IntN.{ℤ}
+use lib.ListN.{length}
+use Rattle.numbers.specs.Grid.{tabulate}
+use Rattle.numbers.specs.Wrap.{wrap}
+use Rattle.numbers.proofs.Writes.{tabulate-at}
+use Rattle.spec_picture.specs.Window.{shape_of, reach}
+use Rattle.spec_picture.specs.Picture.{plane_at}
+use Rattle.spec_picture.specs.Checked.{given, checked_source}
+use Rattle.row_loops.specs.Across.{neighbour_sum}
+use Rattle.row_steps.proofs.AcrossRows.{added-across}
+use Rattle.row_steps.proofs.first_rows.reaching.Goals as goal
+
+pub returns : goal.returns
+returns c =
+    let plane : ℕ → ℕ → ℤ = plane_at (checked_source c.args.inputs.now.source) in
+    let columns = c.args.inputs.now.source.size.columns in
+    let part = c.part in
+    let cells = part.new.out in
+    let whole : length cells ≡ columns = part.auto.out ∙ c.requires.room in
+    added-across columns (reach (shape_of (given c.args.inputs.now.window)) c.args.m) (plane c.args.m) c.args.work.now _ cells _ whole
+    (λ n n<. ap wrap (tabulate-at cells _ _ part.ensures n (omega (arith, whole))))
+    (c.across.ensures ∙ ap (λ (k : ℕ). tabulate (length cells) (neighbour_sum cells k)) c.reach-k.ensures) c.requires.step.room_work c.add.ensures

@@ -1,0 +1,5 @@
+pub mod AreasAsked
+pub mod Asked
+pub mod Edges
+pub mod FirstRowsAsked
+pub mod SlantedAsked

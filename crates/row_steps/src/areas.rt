@@ -1,0 +1,53 @@
+// The work area from row to row, and the output row that it gives.
+
+ghost use Rattle.std.specs.Prelude.{◌≡◌};
+ghost use Rattle.spec_picture.specs.Window.{shape_of};
+ghost use Rattle.spec_picture.specs.Picture.{plane_at};
+ghost use Rattle.spec_picture.specs.Checked.{given, checked_source, checked_inputs};
+ghost use Rattle.spec_rows.specs.Rows.{work_after, output_row};
+ghost use Rattle.row_steps.specs.AreasAsked.{OutputAsked};
+ghost use Rattle.row_steps.specs.Asked.{StepAsked};
+
+use crate::first_rows::rectangle;
+use crate::{first_rows, slanted, step};
+use row_loops::across;
+use spec_picture::{CheckedInputs, CheckedWindow, Size};
+use windows::shape;
+
+// The work area moves on to the row at a position: at position 0 it is not read. The room for a row serves on the way.
+fn area(position: usize, inputs: &CheckedInputs<'_>, work: &mut [i64], row: &mut [i64])
+    requires { StepAsked (checked_inputs inputs.now) position work.old row.old }
+    ensures { work.new ≡ work_after inputs.now.source.size (plane_at (checked_source inputs.now.source)) (shape_of (given inputs.now.window)) position work.old }
+{
+    let above = position.checked_sub(1);
+    match (shape::is_rectangle(inputs.window), above) {
+        (true, None) => rectangle::first(&inputs.source, shape::height(inputs.window), work),
+        (true, Some(i)) => {
+            step::add_gain(&inputs.source, i, shape::height(inputs.window), work);
+        }
+        (false, None) => first_rows::first(inputs, work, row),
+        (false, Some(i)) => slanted::next(inputs, i, work, row),
+    }
+}
+
+// The output row: of a rectangle the sums across the work area, of the others the work area.
+fn output(size: Size, window: CheckedWindow, work: &[i64], out: &mut [i64])
+    requires { OutputAsked size work.now out.old }
+    ensures { out.new ≡ output_row size (shape_of (given window)) work.now }
+{
+    if shape::is_rectangle(window) {
+        across::across(work, shape::width(window), out);
+    } else {
+        out.copy_from_slice(work);
+    }
+}
+
+// The work area moves on to the row at a position, and out is its output row.
+pub fn next(position: usize, inputs: &CheckedInputs<'_>, work: &mut [i64], out: &mut [i64])
+    requires { StepAsked (checked_inputs inputs.now) position work.old out.old }
+    ensures work { work.new ≡ work_after inputs.now.source.size (plane_at (checked_source inputs.now.source)) (shape_of (given inputs.now.window)) position work.old }
+    ensures out { out.new ≡ output_row inputs.now.source.size (shape_of (given inputs.now.window)) (work_after inputs.now.source.size (plane_at (checked_source inputs.now.source)) (shape_of (given inputs.now.window)) position work.old) }
+{
+    area(position, inputs, work, out);
+    output(inputs.source.size, inputs.window, work, out);
+}

@@ -1,0 +1,23 @@
+// A rectangle's column sums: those of row 0.
+ghost use Rattle.std.specs.Prelude.{◌≡◌, length};
+ghost use Rattle.numbers.specs.Grid.{tabulate};
+ghost use Rattle.spec_picture.specs.Picture.{plane_at};
+ghost use Rattle.spec_picture.specs.Checked.{checked_source};
+ghost use Rattle.spec_rows.specs.Rows.{column_sum};
+
+use plane_rows::plane_values;
+use row_loops::change;
+use spec_picture::CheckedSource;
+use windows::clip;
+
+// Row 0: the column sums over rows 0 to a.
+pub fn first(source: &CheckedSource<'_>, a: usize, work: &mut [i64])
+    requires { length work.old ≡ source.now.size.columns }
+    ensures { work.new ≡ tabulate source.now.size.columns (column_sum source.now.size (plane_at (checked_source source.now)) a 0) }
+{
+    let end = clip::high(0, a, source.size.rows);
+    plane_values::fill(work, 0);
+    for m in 0..end {
+        change::exchange(source, m, None, work);
+    }
+}

@@ -1,8 +1,0 @@
--- What the loop of `row_sums::first_row` keeps. Assumes nothing.
-use mathlib.Core.List.{[]}
-use Rattle.row_sums.specs.RowSums.{number}
-use Rattle.row_sums.proofs.Written.{Written}
-use Rattle.row_sums.proofs.first_row.Given as goal
-
-abbrev pub invariant-loop-j : goal.invariant-loop-j
-invariant-loop-j l = Written [] (number l.initial.row) l.initial.row l.row l.sum l.j

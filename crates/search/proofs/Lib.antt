@@ -1,4 +1,0 @@
-pub mod Voices
-pub mod Searching
-mod BlockRows
-mod Kept

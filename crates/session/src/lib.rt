@@ -1,2 +1,0 @@
-// The row session: what it means. Definitions and laws; the functions are in `rows`.
-#![tactic(auto)]

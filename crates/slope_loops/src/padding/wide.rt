@@ -1,0 +1,36 @@
+// Planes 3, 4 and 5, whose values are products of levels: rows of 64 bits. They hold the other planes too.
+// For callers that have checked their inputs.
+ghost use Rattle.std.specs.Prelude.{◌^◌, ⊤};
+ghost use Rattle.std.proofs.Common.{arith};
+ghost use Rattle.spec_picture.proofs.Planes.{plane-bound};
+
+use crate::padding::PlaneValue;
+use plane_rows::{plane_values, planes};
+use spec_picture::CheckedSource;
+
+impl PlaneValue for i64 {
+    ghost value = { λ x. x };
+
+    ghost value_max = { 2 ^ 30 };
+
+    ghost holds = { λ p. ⊤ };
+
+    ghost small = { λ x p f g. plane-bound x f g };
+
+    ghost row_fits = { omega arith };
+
+    fn zero() -> i64 {
+        0
+    }
+
+    #[tactic(auto, unfolding(spec_picture::specs::Size::size_legal))]
+    fn load(source: &CheckedSource<'_>, y: usize, buf: &mut [i64; 1536]) {
+        let left = 256;
+        let right = left + source.size.columns;
+        if y < 128 {
+            plane_values::fill(&mut buf[left..right], 0);
+            return;
+        }
+        planes::part(source, y - 128, &mut buf[left..right]);
+    }
+}

@@ -1,0 +1,145 @@
+-- The window sums of row 0 from column to column: nothing lies above row 0, so the rising slopes come in and the falling ones go.
+-- Assumes nothing.
+use mathlib.Core.Path.{◌≡◌, sym, ◌∙◌, ap, ap₂}
+use Prim.Native.Nat.{ℕ, zero, suc, ◌+◌, ◌-◌, ◌≤◌, ◌<◌, min}
+use native.Mathlib.Omega.{arith}
+use native.Mathlib.Decide.{dec_lt}
+use mathlib.Core.Bool.{false}
+use lib.Dec.{leb, ltb, leb→le, le→leb}
+use lib.IntN.{ℤ, pos, ◌+ℤ◌, ◌-ℤ◌}
+use Rattle.numbers.specs.Sum.{sum_to, pick}
+use Rattle.numbers.proofs.Linear.{any, sums, ring}
+use Rattle.numbers.proofs.Sums.{sum-cong, sum-none, sum-add, sum-sub, sum-prefix, pick_yes, pick_no, pick-in, pick_out, near_step}
+use Rattle.spec_picture.specs.declared.Size.{Size}
+use Rattle.spec_picture.specs.Window.{Shape, is_rectangle, height, reach, width}
+use Rattle.spec_picture.specs.Direct.{window_sum}
+use Rattle.spec_picture.proofs.Windows.{height-width, reach-slanted}
+use Rattle.slope_loops.specs.Slopes.{padded, rising, falling}
+use Rattle.slope_loops.proofs.Moves.{padded-cell, padded-above, padded-left, padded-right}
+use Rattle.row_steps.proofs.Columns.{reached, window-0}
+
+-- ---- sums
+-- the first term and the others
+sum_first : (n : ℕ) (f : ℕ → ℤ) → sum_to (suc n) f ≡ f 0 +ℤ sum_to n (λ t. f (suc t))
+unfolding sum_to
+sum_first zero f = ring (search (sums, any (f 0))) (omega arith)
+sum_first (suc n) f = ap (λ (v : ℤ). v +ℤ f (suc n)) (sum_first n f) ∙ last (f 0) (sum_to n (λ t. f (suc t))) (f (suc n))
+  where
+    last : (a b c : ℤ) → (a +ℤ b) +ℤ c ≡ a +ℤ (b +ℤ c)
+    last a b c = ring (search (sums, any a, any b, any c) depth 12) (omega arith)
+
+-- the others are 0
+only-first : (n : ℕ) (f : ℕ → ℤ) → 1 ≤ n → ((t : ℕ) → 1 ≤ t → f t ≡ pos 0) → sum_to n f ≡ f 0
+only-first zero f h e = absurd (omega arith)
+only-first (suc n) f h e = sum_first n f ∙ ap (λ (v : ℤ). f 0 +ℤ v) (sum-none n (λ t. f (suc t)) (λ t t<. e (suc t) (omega arith))) ∙ right (f 0)
+  where
+    right : (a : ℤ) → a +ℤ pos 0 ≡ a
+    right a = ring (search (sums, any a)) (omega arith)
+
+-- terms that are 0 from place b on
+sum-upto : (a b : ℕ) (f : ℕ → ℤ) → ((k : ℕ) → b ≤ k → f k ≡ pos 0) → sum_to (min a b) f ≡ sum_to a f
+sum-upto a b f e =
+    let turned : min a b ≡ min b a = omega arith in
+    ap (λ (m : ℕ). sum_to m f) turned ∙ sym (sum-prefix a b f) ∙ sum-cong a (λ k. pick (ltb k b) (f k)) f (λ k k<. here k (dec_lt k b))
+  where
+    here : (k : ℕ) → Dec (k < b) → pick (ltb k b) (f k) ≡ f k
+    here k (yes h) = pick-in k b (f k) h
+    here k (no h) = pick_out k b (f k) (omega arith) ∙ sym (e k (omega arith))
+
+module _ (z : Size) (P : ℕ → ℕ → ℤ) (past : (m n : ℕ) → z.rows ≤ m → P m n ≡ pos 0) (beside : (m n : ℕ) → z.columns ≤ n → P m n ≡ pos 0) where
+  abbrev Q : ℕ → ℕ → ℤ
+  Q = padded P
+
+  padded-past : (m x : ℕ) → z.rows ≤ m → Q (128 + m) x ≡ pos 0
+  padded-past m x h = go (dec_lt x 256)
+    where
+      go : Dec (x < 256) → Q (128 + m) x ≡ pos 0
+      go (yes l) = padded-left P (128 + m) x l
+      go (no l) =
+          let e : 256 + (x - 256) ≡ x = omega arith in
+          sym (ap (Q (128 + m)) e) ∙ padded-cell P m (x - 256) ∙ past m (x - 256) h
+
+  -- ---- one row, from column j to j+1, as far as k to both sides
+  on-right : (m k j : ℕ) → pick (ltb (suc j + k) z.columns) (P m (suc j + k)) ≡ Q (128 + m) (257 + j + k)
+  on-right m k j = go (dec_lt (suc j + k) z.columns)
+    where
+      go : Dec (suc j + k < z.columns) → pick (ltb (suc j + k) z.columns) (P m (suc j + k)) ≡ Q (128 + m) (257 + j + k)
+      go (yes h) =
+          let e : 256 + (suc j + k) ≡ 257 + j + k = omega arith in
+          pick-in (suc j + k) z.columns (P m (suc j + k)) h ∙ sym (padded-cell P m (suc j + k)) ∙ ap (Q (128 + m)) e
+      go (no h) = pick_out (suc j + k) z.columns (P m (suc j + k)) (omega arith) ∙ sym (padded-right P z.columns beside (128 + m) (257 + j + k) (omega arith))
+
+  on-left : (m k j : ℕ) → k ≤ 256 → j < z.columns → pick (leb k j) (pick (ltb (j - k) z.columns) (P m (j - k))) ≡ Q (128 + m) (256 + j - k)
+  on-left m k j l j< = go (dec_lt j k)
+    where
+      go : Dec (j < k) → pick (leb k j) (pick (ltb (j - k) z.columns) (P m (j - k))) ≡ Q (128 + m) (256 + j - k)
+      go (yes h) = pick_no (leb k j) (pick (ltb (j - k) z.columns) (P m (j - k))) (λ t. omega (arith, leb→le k j t)) ∙ sym (padded-left P (128 + m) (256 + j - k) (omega arith))
+      go (no h) =
+          let e : 256 + (j - k) ≡ 256 + j - k = omega arith in
+          pick_yes (leb k j) (pick (ltb (j - k) z.columns) (P m (j - k))) (le→leb k j (omega arith)) ∙ pick-in (j - k) z.columns (P m (j - k)) (omega arith) ∙ sym (padded-cell P m (j - k)) ∙ ap (Q (128 + m)) e
+
+  module _ (s : Shape) (no-rectangle : is_rectangle s ≡ false) (low : height s ≤ 127) (narrow : width s ≤ 127) (j : ℕ) (j< : j < z.columns) where
+    abbrev h : ℕ
+    h = height s
+
+    abbrev w : ℕ
+    w = width s
+
+    -- row t of the window: the cell behind its right end comes in, and the one at its left end goes
+    abbrev comes : ℕ → ℤ
+    comes t = Q (128 + t) (257 + j + w - t)
+
+    abbrev goes : ℕ → ℤ
+    goes t = Q (128 + t) (256 + j + t - w)
+
+    row_step : (t : ℕ) → t ≤ h → reached z P s t (suc j) ≡ reached z P s t j +ℤ (comes t -ℤ goes t)
+    row_step t l =
+        let k : reach s t ≡ w - t = reach-slanted s no-rectangle t in
+        let wide : h ≤ w = height-width s no-rectangle in
+        let right : 257 + j + (w - t) ≡ 257 + j + w - t = omega arith in
+        let left : 256 + j - (w - t) ≡ 256 + j + t - w = omega arith in
+        near_step z.columns j (reach s t) (P t)
+        ∙ ap (λ (v : ℤ). reached z P s t j +ℤ v)
+        (ap₂ ◌-ℤ◌
+        (on-right t (reach s t) j ∙ ap (λ (q : ℕ). Q (128 + t) (257 + j + q)) k ∙ ap (Q (128 + t)) right)
+        (on-left t (reach s t) j (omega (arith, k)) j< ∙ ap (λ (q : ℕ). Q (128 + t) (256 + j - q)) k ∙ ap (Q (128 + t)) left))
+
+    rows_step : window_sum z s P 0 (suc j) ≡ window_sum z s P 0 j +ℤ sum_to (suc h) (λ t. comes t -ℤ goes t)
+    rows_step =
+        let m = min (suc (0 + h)) z.rows in
+        let from_0 : 0 + h ≡ h = omega arith in
+        window-0 z P s (suc j)
+        ∙ sum-cong m (λ t. reached z P s t (suc j)) (λ t. reached z P s t j +ℤ (comes t -ℤ goes t)) (λ t t<. row_step t (omega arith))
+        ∙ sum-add m (λ t. reached z P s t j) (λ t. comes t -ℤ goes t)
+        ∙ ap₂ ◌+ℤ◌ (sym (window-0 z P s j))
+        (sum-upto (suc (0 + h)) z.rows (λ t. comes t -ℤ goes t) (λ t l. ap₂ ◌-ℤ◌ (padded-past t (257 + j + w - t) l) (padded-past t (256 + j + t - w) l))
+        ∙ ap (λ (n : ℕ). sum_to (suc n) (λ t. comes t -ℤ goes t)) from_0)
+
+    -- of row 0 the slopes have lower cells, and above them those of row 0 alone
+    rising-is : 1 ≤ h → rising Q w h 128 (256 + j) ≡ sum_to h (λ t. comes (suc t)) -ℤ goes 0
+    unfolding rising
+    rising-is some =
+        sum-sub h (λ t. Q (128 + 1 + t) (256 + j + w - t)) (λ t. Q (128 - t) (256 + j + t - w))
+        ∙ ap₂ ◌-ℤ◌
+        (sum-cong h (λ t. Q (128 + 1 + t) (256 + j + w - t)) (λ t. comes (suc t)) (λ t t<. ap₂ Q (omega arith) (omega arith)))
+        (only-first h (λ t. Q (128 - t) (256 + j + t - w)) some (λ t l. padded-above P (128 - t) (256 + j + t - w) (omega arith)) ∙ ap₂ Q (omega arith) (omega arith))
+
+    falling-is : 1 ≤ h → falling Q w h 128 (257 + j) ≡ sum_to h (λ t. goes (suc t)) -ℤ comes 0
+    unfolding falling
+    falling-is some =
+        sum-sub h (λ t. Q (128 + 1 + t) (257 + j + t - w)) (λ t. Q (128 - t) (257 + j + w - t))
+        ∙ ap₂ ◌-ℤ◌
+        (sum-cong h (λ t. Q (128 + 1 + t) (257 + j + t - w)) (λ t. goes (suc t)) (λ t t<. ap₂ Q (omega arith) (omega arith)))
+        (only-first h (λ t. Q (128 - t) (257 + j + w - t)) some (λ t l. padded-above P (128 - t) (257 + j + w - t) (omega arith)) ∙ ap₂ Q (omega arith) (omega arith))
+
+    parted : (c cs g gs : ℤ) → (c +ℤ cs) -ℤ (g +ℤ gs) ≡ (cs -ℤ g) -ℤ (gs -ℤ c)
+    parted c cs g gs = ring (search (sums, any c, any cs, any g, any gs) depth 12) (omega arith)
+
+    pub first_step : 1 ≤ h → window_sum z s P 0 (suc j) ≡ window_sum z s P 0 j +ℤ (rising Q w h 128 (256 + j) -ℤ falling Q w h 128 (257 + j))
+    first_step some =
+        rows_step
+        ∙ ap (λ (v : ℤ). window_sum z s P 0 j +ℤ v)
+        (sum-sub (suc h) comes goes
+        ∙ ap₂ ◌-ℤ◌ (sum_first h comes) (sum_first h goes)
+        ∙ parted (comes 0) (sum_to h (λ t. comes (suc t))) (goes 0) (sum_to h (λ t. goes (suc t)))
+        ∙ sym (ap₂ ◌-ℤ◌ (rising-is some) (falling-is some)))

@@ -1,0 +1,21 @@
+-- Rows and slopes of zeros, of any width.
+-- Assumes nothing.
+use mathlib.Core.Path.{◌≡◌, ◌∙◌, ap}
+use Prim.Native.Nat.{ℕ}
+use mathlib.Core.List.{map}
+use lib.IntN.{ℤ, pos}
+use lib.LanesLaws.{map-replicate}
+use lib.ListN.{replicate}
+use Rattle.slope_loops.specs.Leans.{Blank}
+use Rattle.slope_rows.specs.Edges.{Slopes}
+use Rattle.slope_rows.proofs.Kept.{zeros-blank, zeros-slopes}
+
+module _ {X : Type 0} (f : X → ℤ) (n : ℕ) (some : n ≡ 1536) where
+  zeros : (x : X) → f x ≡ pos 0 → map f (replicate n x) ≡ replicate n (pos 0)
+  zeros x e = map-replicate f n x ∙ ap (replicate n) e
+
+  pub blank : (columns : ℕ) (x : X) → f x ≡ pos 0 → Blank (map f (replicate n x)) columns
+  blank columns x e = rw (zeros x e) (zeros-blank n columns some)
+
+  pub no-slopes : (Q : ℕ → ℕ → ℤ) (columns w i : ℕ) (x y : X) → f x ≡ pos 0 → f y ≡ pos 0 → Slopes Q columns w 0 i 0 (map f (replicate n x)) (map f (replicate n y))
+  no-slopes Q columns w i x y ex ey = rw (zeros x ex, zeros y ey) (zeros-slopes Q columns w i n some)

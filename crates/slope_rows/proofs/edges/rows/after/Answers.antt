@@ -1,0 +1,87 @@
+-- `slope_rows::edges::rows::after` meets its contract. Assumes nothing.
+use mathlib.Core.Path.{◌≡◌, refl, ◌∙◌}
+use Rattle.spec_picture.proofs.Found.{limits}
+use Rattle.std.proofs.Common.{rules}
+use Prim.Native.Nat.{suc, ◌+◌, ◌-◌, ◌*◌, ◌≤◌}
+use native.Mathlib.Omega.{arith}
+use lib.ListN.{length}
+use Rattle.numbers.proofs.Writes.{slice-length}
+use Rattle.spec_picture.specs.Window.{shape_of}
+use Rattle.spec_picture.specs.Checked.{given}
+use Rattle.numbers.proofs.Lines.{line-end}
+use Rattle.slope_loops.specs.Slopes.{padded}
+use Rattle.slope_rows.proofs.Kept.{slopes-begin, holds-begin}
+use Rattle.slope_rows.specs.Edges.{plane_in}
+use Rattle.slope_rows.proofs.Advances.{passed-more}
+use Rattle.spec_rows.proofs.Strips.{partly_none, partly-all}
+use Rattle.slope_rows.proofs.edges.rows.after.Goals as goal
+
+pub loop-m-init : goal.loop-m-init
+loop-m-init g c =
+    let x = c.args.slanted.now in
+    let z = x.inputs.source.size in (
+      omega arith,
+      refl,
+      c.requires.many.room_work,
+      partly_none z (plane_in x) (shape_of (given x.inputs.window)) (suc c.args.i) c.args.work.now c.args.out.now,
+      c.requires.rows,
+      slopes-begin (padded (plane_in x)) z.columns _ _ c.args.i _ _ c.requires.slopes,
+      holds-begin (padded (plane_in x)) _ c.args.i _ c.requires.leaving,
+    )
+
+pub row-requires : goal.row-requires
+row-requires g c =
+    let x = c.args.slanted.now in
+    let l = c.loop-m in
+    let z = c.args.slanted.now.inputs.source.size in
+    let begin = l.m * z.columns in
+    let ends : begin + z.columns ≤ length l.out = omega (arith, l.invariant.1, c.requires.many.room, line-end l.m c.args.n z.columns c.loop-m-test.true) in
+    let inside = c.loop-m-test.true in
+    let span : begin + z.columns - begin ≡ z.columns = omega arith in (
+      search rules,
+      (
+        search rules,
+        record {
+          plane = c.requires.plane;
+          row = record {
+            inside = omega (arith, c.requires.many.rows, inside);
+            turn = omega (arith, c.requires.many.rows, inside, (limits c.args.slanted.now.inputs.source).few_rows);
+            rows = l.invariant.4;
+            slopes = l.invariant.5;
+            room_work = l.invariant.2;
+            room = slice-length begin (begin + z.columns) l.out (omega arith) ends ∙ span;
+          };
+          leaving = l.invariant.6;
+        },
+      ),
+    )
+
+pub loop-m-preserved : goal.loop-m-preserved
+loop-m-preserved g c =
+    let x = c.args.slanted.now in
+    let l = c.loop-m in
+    let z = c.args.slanted.now.inputs.source.size in
+    let begin = l.m * z.columns in
+    let ends : begin + z.columns ≤ length l.out = omega (arith, l.invariant.1, c.requires.many.room, line-end l.m c.args.n z.columns c.loop-m-test.true) in
+    let r = c.row.ensures.row in
+    let leaves = c.row.ensures.leaving in
+    let next : 128 + (c.args.i + l.m) + 1 ≡ 128 + (c.args.i + (l.m + 1)) = omega arith in
+    let below : 129 + (c.args.i + l.m) ≡ 128 + (c.args.i + (l.m + 1)) = omega arith in (
+      omega (arith, c.loop-m-test.true),
+      c.out-1.given.1 ∙ l.invariant.1,
+      c.work-1.given ∙ l.invariant.2,
+      passed-more x c.args.i l.m begin c.args.work.now l.work l.out _ _ l.invariant.3 refl ends r.work_is r.output_is,
+      r.rows,
+      rw next at r.slopes,
+      rw below at leaves,
+    )
+
+pub returns : goal.returns
+returns g c =
+    let x = c.args.slanted.now in
+    let l = c.loop-m in
+    partly-all x.inputs.source.size (plane_in x) (shape_of (given x.inputs.window)) (suc c.args.i) c.args.work.now c.args.n l.m l.work l.out l.invariant.3 (omega (arith, l.invariant.0, c.loop-m-test.false)) (l.invariant.1 ∙ c.requires.many.room)
+
+pub overflow_add-i : goal.overflow_add-i
+overflow_add-i g c =
+    record { fits = omega (arith, c.requires.many.rows, c.loop-m-test.true, (limits c.args.slanted.now.inputs.source).few_rows) }

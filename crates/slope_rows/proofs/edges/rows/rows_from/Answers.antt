@@ -1,0 +1,84 @@
+-- `slope_rows::edges::rows::rows_from` meets its contract. Assumes nothing.
+use mathlib.Core.Path.{refl, ◌∙◌}
+use Prim.Native.Nat.{◌+◌, ◌-◌}
+use native.Mathlib.Omega.{arith}
+use lib.ListN.{length}
+use Rattle.spec_picture.proofs.Found.{limits}
+use Rattle.numbers.proofs.Writes.{slice-length}
+use Rattle.spec_picture.specs.Picture.{Inputs}
+use Rattle.spec_picture.specs.Checked.{checked_source, checked_inputs}
+use Rattle.spec_picture.proofs.Planes.{plane-beside}
+use Rattle.slope_loops.specs.Slopes.{padded}
+use Rattle.slope_rows.specs.Edges.{plane_in}
+use Rattle.slope_rows.proofs.Kept.{blank_of}
+use Rattle.slope_rows.proofs.Across.{behind-fits, rows-done}
+use Rattle.slope_rows.proofs.Zeros.{blank, no-slopes}
+use Rattle.slope_rows.proofs.edges.rows.rows_from.Goals as goal
+
+pub start-requires : goal.start-requires
+start-requires g c =
+    let x = c.args.slanted.now in
+    let columns = x.inputs.source.size.columns in (
+      g.met.S.Value.PlaneValue.row_fits,
+      (
+        g.met.S.Slope.slopes_fit,
+        (
+          c.requires.plane,
+          record {
+            inside = omega (arith, c.requires.rows);
+            blank_a = blank g.S.Value.PlaneValue.value 1536 refl columns c.zero-a.result c.zero-a.ensures;
+            blank_b = blank g.S.Value.PlaneValue.value 1536 refl columns c.zero-b.result c.zero-b.ensures;
+            slopes = no-slopes g.S.Slope.sum 1536 refl (padded (plane_in x)) columns x.width (128 + c.args.i) c.zero-rises.result c.zero-falls.result c.zero-rises.ensures c.zero-falls.ensures;
+          },
+        ),
+      ),
+    )
+
+pub overflow_add-i : goal.overflow_add-i
+overflow_add-i g c = omega (arith, c.requires.rows, (limits c.args.slanted.now.inputs.source).few_rows)
+
+pub overflow_sub-i : goal.overflow_sub-i
+overflow_sub-i g c = omega (arith, c.args.slanted.now.fits.low, c.args.slanted.now.fits.narrow)
+
+pub load-requires : goal.load-requires
+load-requires g c =
+    let columns = c.args.slanted.now.inputs.source.size.columns in
+    (g.met.S.Value.PlaneValue.row_fits, (c.requires.plane, blank g.S.Value.PlaneValue.value 1536 refl columns c.zero-c.result c.zero-c.ensures))
+
+pub after-requires : goal.after-requires
+after-requires g c =
+    let x = c.args.slanted.now in
+    let r = c.start.ensures in
+    let leaves = c.load.ensures in
+    let top = c.top_row-begin in
+    let columns = c.args.slanted.now.inputs.source.size.columns in
+    let end = length top.new.out in
+    let kept = top.auto.out in
+    let f = behind-fits _ _ _ _ _ top.ensures.begins top.ensures.none c.requires.room_fresh c.requires.room_behind in (
+      g.met.S.Value.PlaneValue.row_fits,
+      (
+        g.met.S.Slope.slopes_fit,
+        record {
+          plane = c.requires.plane;
+          many = record {
+            rows = c.requires.rows;
+            room_work = top.auto.work ∙ c.requires.room_work;
+            room = slice-length top.result end top.new.out (omega (arith, kept, f.0)) (omega arith) ∙ omega (arith, kept, f.1);
+          };
+          rows = record { blank_a = r.blank_a; blank_b = r.blank_b; blank_c = blank_of (plane_in x) columns (plane-beside (checked_source x.inputs.source)) _ (128 + c.args.i - x.height) leaves };
+          slopes = r.slopes;
+          leaving = leaves;
+        },
+      ),
+    )
+
+pub returns : goal.returns
+returns g c =
+    let x : Inputs = checked_inputs c.args.slanted.now.inputs in
+    let top = c.top_row-begin in
+    let rest = c.after in
+    let end = length top.new.out in
+    let f = behind-fits _ _ _ _ _ top.ensures.begins top.ensures.none c.requires.room_fresh c.requires.room_behind in
+    let kept = top.auto.out in
+    rows-done x c.args.fresh c.args.i c.args.n top.result end c.args.work.now _ top.new.out rest.new.work rest.new.out c.args.slanted.now.fits.slanted c.requires.at_0 top.ensures (omega (arith, kept, f.0)) refl
+    (rest.auto.out ∙ slice-length top.result end top.new.out (omega (arith, kept, f.0)) (omega arith)) rest.ensures

@@ -1,0 +1,153 @@
+-- The slopes of a slanted window's edges as the code keeps them from row to row, and what its functions ask. That the window is no rectangle, and of which height
+-- and width, stands in the type of their inputs.
+-- Room is asked in each contract, for the reason at `row_steps/specs/AreasAsked`.
+-- Assumes nothing.
+use Rattle.std.specs.Prelude.{◌≡◌, ℕ, zero, suc, ◌+◌, ◌-◌, ◌*◌, ◌≤◌, ◌<◌, Bool, not, List, T, length, get_or, take, ℤ, pos, ◌+ℤ◌, ◌-ℤ◌}
+use Rattle.numbers.specs.Grid.{tabulate}
+use Rattle.numbers.specs.Wrap.{wrap}
+use Rattle.spec_picture.specs.Window.{shape_of}
+use Rattle.spec_picture.specs.Picture.{Inputs, plane_at}
+use Rattle.spec_picture.specs.Plane.{plane_number}
+use Rattle.spec_picture.specs.Checked.{checked_source}
+use Rattle.spec_rows.specs.Rows.{work_after, strip, Advanced}
+use Rattle.slope_loops.specs.Slopes.{padded, rising, falling, edges_change}
+use Rattle.slope_loops.specs.Leans.{Blank, Holds}
+use Rattle.slope_rows.specs.declared.kept_slopes.SlantedInputs.{SlantedInputs}
+
+-- n cells of each slope of row y, in the m'th row of a call. A slope that rises has moved left by m places, one that falls right by m: the slopes of
+-- column j stand at 128 + m + j and at 384 - m + j.
+pub record Slopes (Q : ℕ → ℕ → ℤ) (columns w n y m : ℕ) (rises falls : List ℤ) : Type 0 where
+  pub length_rises : length rises ≡ 1536
+  pub length_falls : length falls ≡ 1536
+  pub rising_at : (s : ℕ) → 128 + m ≤ s → get_or rises s (pos 0) ≡ rising Q w n y (s + 128 - m)
+  pub falling_at : (s : ℕ) → s + m < 384 + columns → get_or falls s (pos 0) ≡ falling Q w n y (s + m - 128)
+
+-- three rows with zeros around the picture's columns
+pub record Rows (columns : ℕ) (a b c : List ℤ) : Type 0 where
+  pub blank_a : Blank a columns
+  pub blank_b : Blank b columns
+  pub blank_c : Blank c columns
+
+-- the plane of such inputs
+abbrev pub plane_in : SlantedInputs → ℕ → ℕ → ℤ
+plane_in x = plane_at (checked_source x.inputs.source)
+
+-- a row of the picture, and no slopes yet
+pub record StartAsked (x : SlantedInputs) (i : ℕ) (a b rises falls : List ℤ) : Type 0 where
+  pub inside : i < x.inputs.source.size.rows
+  pub blank_a : Blank a x.inputs.source.size.columns
+  pub blank_b : Blank b x.inputs.source.size.columns
+  pub slopes : Slopes (padded (plane_in x)) x.inputs.source.size.columns x.width 0 (128 + i) 0 rises falls
+
+-- the slopes of row i
+pub record Started (x : SlantedInputs) (i : ℕ) (a b rises falls : List ℤ) : Type 0 where
+  pub blank_a : Blank a x.inputs.source.size.columns
+  pub blank_b : Blank b x.inputs.source.size.columns
+  pub slopes : Slopes (padded (plane_in x)) x.inputs.source.size.columns x.width x.height (128 + i) 0 rises falls
+
+-- the sum at column j of a row that begins with `corner`: from a column to the next its rising slopes come in and the falling ones of the next go
+unfoldable pub across_slopes : (corner : ℤ) → (rises falls : List ℤ) → (j : ℕ) → ℤ
+across_slopes corner rises falls zero = corner
+across_slopes corner rises falls (suc j) = wrap (across_slopes corner rises falls j +ℤ (get_or rises (j + 128) (pos 0) -ℤ get_or falls (j + 385) (pos 0)))
+
+-- slopes, and room for a row twice
+pub record AcrossAsked (rises falls work out : List ℤ) : Type 0 where
+  pub length_rises : length rises ≡ 1536
+  pub length_falls : length falls ≡ 1536
+  pub few : length work ≤ 1024
+  pub room : length out ≡ length work
+
+-- the m'th row of a call, with its slopes, a work area, and room for a row
+pub record RowAsked (x : SlantedInputs) (i m : ℕ) (a b c rises falls work out : List ℤ) : Type 0 where
+  pub inside : i < x.inputs.source.size.rows
+  pub turn : m ≤ 254
+  pub rows : Rows x.inputs.source.size.columns a b c
+  pub slopes : Slopes (padded (plane_in x)) x.inputs.source.size.columns x.width x.height (128 + i) m rises falls
+  pub room_work : length work ≡ x.inputs.source.size.columns
+  pub room : length out ≡ x.inputs.source.size.columns
+
+-- the work area with what each column adds from row i to i+1
+abbrev pub edged : SlantedInputs → (i : ℕ) → List ℤ → List ℤ
+edged x i work = tabulate x.inputs.source.size.columns (λ j. wrap (get_or work j (pos 0) +ℤ edges_change x.inputs.source.size (plane_in x) x.height x.width i j))
+
+-- the work area and the output row have moved on, and so have the slopes
+pub record RowDone (x : SlantedInputs) (i m : ℕ) (before a b c rises falls work out : List ℤ) : Type 0 where
+  pub rows : Rows x.inputs.source.size.columns a b c
+  pub slopes : Slopes (padded (plane_in x)) x.inputs.source.size.columns x.width x.height (128 + i + 1) (m + 1) rises falls
+  pub work_is : work ≡ edged x i before
+  pub output_is : out ≡ edged x i before
+
+-- ---- the rows that enter and leave in the middle are kept too
+pub record TakeAsked (x : SlantedInputs) (i m : ℕ) (a c rises falls work out : List ℤ) : Type 0 where
+  pub inside : i < x.inputs.source.size.rows
+  pub turn : m ≤ 254
+  pub entering : Holds a (padded (plane_in x) (129 + i + x.height))
+  pub leaving : Holds c (padded (plane_in x) (128 + i - x.height))
+  pub slopes : Slopes (padded (plane_in x)) x.inputs.source.size.columns x.width x.height (128 + i) m rises falls
+  pub room_work : length work ≡ x.inputs.source.size.columns
+  pub room : length out ≡ x.inputs.source.size.columns
+
+-- of a plane whose values the rows hold
+pub record LeavingAsked (holds : ℕ → Type 0) (x : SlantedInputs) (i m : ℕ) (a b c rises falls work out : List ℤ) : Type 0 where
+  pub plane : holds (plane_number x.inputs.source.plane)
+  pub row : RowAsked x i m a b c rises falls work out
+  pub leaving : Holds c (padded (plane_in x) (128 + i - x.height))
+
+pub record LeavingDone (x : SlantedInputs) (i m : ℕ) (before a b c rises falls work out : List ℤ) : Type 0 where
+  pub row : RowDone x i m before a b c rises falls work out
+  pub leaving : Holds c (padded (plane_in x) (129 + i - x.height))
+
+-- rows of the picture behind row i, a work area, and room for those rows
+pub record ManyAsked (x : SlantedInputs) (i n : ℕ) (work out : List ℤ) : Type 0 where
+  pub rows : i + n < x.inputs.source.size.rows
+  pub room_work : length work ≡ x.inputs.source.size.columns
+  pub room : length out ≡ n * x.inputs.source.size.columns
+
+-- ---- many rows, of a plane whose values the rows hold
+-- the same with the slopes of row i, and the row that leaves in the middle
+pub record AfterAsked (holds : ℕ → Type 0) (x : SlantedInputs) (i n : ℕ) (a b c rises falls work out : List ℤ) : Type 0 where
+  pub plane : holds (plane_number x.inputs.source.plane)
+  pub many : ManyAsked x i n work out
+  pub rows : Rows x.inputs.source.size.columns a b c
+  pub slopes : Slopes (padded (plane_in x)) x.inputs.source.size.columns x.width x.height (128 + i) 0 rises falls
+  pub leaving : Holds c (padded (plane_in x) (128 + i - x.height))
+
+-- A window that has slopes: its height is 1 at least, which is not so of every slanted window; the first rows of the picture, one at least, a work area, and room for those rows
+pub record FreshAsked (x : SlantedInputs) (n : ℕ) (work out : List ℤ) : Type 0 where
+  pub plane : plane_number x.inputs.source.plane ≤ 2
+  pub high : 1 ≤ x.height
+  pub some : 1 ≤ n
+  pub rows : n ≤ x.inputs.source.size.rows
+  pub room_work : length work ≡ x.inputs.source.size.columns
+  pub room : length out ≡ n * x.inputs.source.size.columns
+
+-- the slopes of row 0, a work area and room for a row, where row 0 is to come by its slopes
+pub record TopAsked (x : SlantedInputs) (fresh : Bool) (rises falls work out : List ℤ) : Type 0 where
+  pub high : T fresh → 1 ≤ x.height
+  pub slopes : T fresh → Slopes (padded (plane_in x)) x.inputs.source.size.columns x.width x.height 128 0 rises falls
+  pub length_rises : length rises ≡ 1536
+  pub length_falls : length falls ≡ 1536
+  pub room_work : length work ≡ x.inputs.source.size.columns
+  pub room : T fresh → x.inputs.source.size.columns ≤ length out
+
+-- the work area of row 0, and its row at the front of the output area; or nothing, and the other rows begin at the front
+pub record TopDone (x : Inputs) (fresh : Bool) (before work out : List ℤ) (begin : ℕ) : Type 0 where
+  pub begins : T fresh → begin ≡ x.source.size.columns
+  pub row : T fresh → work ≡ work_after x.source.size (plane_at x.source) (shape_of x.window) 0 before
+  pub front : T fresh → take x.source.size.columns out ≡ work
+  pub none : T (not fresh) → begin ≡ 0
+  pub kept : T (not fresh) → work ≡ before
+
+-- n rows behind row i, and row 0 before them where they are fresh
+pub record FromAsked (holds : ℕ → Type 0) (x : SlantedInputs) (fresh : Bool) (i n : ℕ) (work out : List ℤ) : Type 0 where
+  pub plane : holds (plane_number x.inputs.source.plane)
+  pub high : T fresh → 1 ≤ x.height
+  pub at_0 : T fresh → i ≡ 0
+  pub rows : i + n < x.inputs.source.size.rows
+  pub room_work : length work ≡ x.inputs.source.size.columns
+  pub room_fresh : T fresh → length out ≡ suc n * x.inputs.source.size.columns
+  pub room_behind : T (not fresh) → length out ≡ n * x.inputs.source.size.columns
+
+pub record FromDone (x : Inputs) (fresh : Bool) (i n : ℕ) (before work out : List ℤ) : Type 0 where
+  pub from_0 : T fresh → Advanced (strip x.source.size (plane_at x.source) (shape_of x.window) 0 (suc n) before) work out
+  pub behind : T (not fresh) → Advanced (strip x.source.size (plane_at x.source) (shape_of x.window) (suc i) n before) work out

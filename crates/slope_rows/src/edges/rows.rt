@@ -1,0 +1,110 @@
+// Rows of any width: their values, and the slopes that are made of them.
+ghost use Rattle.std.specs.Prelude.{suc, map};
+ghost use Rattle.spec_picture.specs.Window.{shape_of};
+ghost use Rattle.spec_picture.specs.Checked.{given, checked_inputs};
+ghost use Rattle.spec_rows.specs.Rows.{strip, Advanced};
+ghost use Rattle.slope_rows.specs.Edges.{plane_in, AfterAsked, TopAsked, TopDone, FromAsked, FromDone};
+
+use crate::kept_slopes::SlantedInputs;
+use crate::row;
+use crate::slope_starts::{first, start};
+use direct_sum::window_sums;
+use slope_loops::leans::Slope;
+use slope_loops::padding::PlaneValue;
+use spec_picture::Cell;
+
+// The rows and the slopes are arrays apart here, and no struct: `rows_from` says why.
+
+// n rows behind row i, from the slopes of row i; c has the row that leaves in the middle.
+fn after<S: Slope>(
+    slanted: &SlantedInputs<'_>,
+    i: usize,
+    n: usize,
+    a: &mut [S::Value; 1536],
+    b: &mut [S::Value; 1536],
+    c: &mut [S::Value; 1536],
+    rises: &mut [S; 1536],
+    falls: &mut [S; 1536],
+    work: &mut [i64],
+    out: &mut [i64],
+)
+    requires { AfterAsked S.Value.holds slanted.now i n (map S.Value.value a.old) (map S.Value.value b.old) (map S.Value.value c.old) (map S.sum rises.old) (map S.sum falls.old) work.old out.old }
+    ensures { Advanced (strip slanted.now.inputs.source.size (plane_in slanted.now) (shape_of (given slanted.now.inputs.window)) (suc i) n work.old) work.new out.new }
+{
+    let columns = slanted.inputs.source.size.columns;
+    for m in 0..n {
+        let begin = m * columns;
+        let end = begin + columns;
+        row(
+            slanted,
+            i + m,
+            m,
+            a,
+            b,
+            c,
+            rises,
+            falls,
+            work,
+            &mut out[begin..end],
+        );
+    }
+}
+
+// Where the rows are fresh, row 0 by its slopes: its sums, and its row at the front of out. The answer is the place behind it.
+fn top_row<S: Slope>(
+    fresh: bool,
+    slanted: &SlantedInputs<'_>,
+    rises: &[S; 1536],
+    falls: &[S; 1536],
+    work: &mut [i64],
+    out: &mut [i64],
+) -> usize
+    requires { TopAsked slanted.now fresh (map S.sum rises.now) (map S.sum falls.now) work.old out.old }
+    ensures { TopDone (checked_inputs slanted.now.inputs) fresh work.old work.new out.new result }
+{
+    if !fresh {
+        return 0;
+    }
+    let columns = slanted.inputs.source.size.columns;
+    let corner = Cell { row: 0, column: 0 };
+    let sum = window_sums::sum(&slanted.inputs, corner);
+    first(sum, rises, falls, work, &mut out[..columns]);
+    columns
+}
+
+// n rows behind row i, and row 0 before them where they are fresh.
+// One function for both, which the flag tells apart: with two callers of the loops the compiler did not put them where the arrays are made, and 256 rows over a diamond
+// of 2 took 1.65 times as long.
+// The rows and slopes are five arrays, for the widest row with its margins, since there is no heap, and no struct: over the fields of one the loops took 1.1 times as long or more, as the compiler does not see that they lie apart.
+pub fn rows_from<S: Slope>(
+    fresh: bool,
+    slanted: &SlantedInputs<'_>,
+    i: usize,
+    n: usize,
+    work: &mut [i64],
+    out: &mut [i64],
+)
+    requires { FromAsked S.Value.holds slanted.now fresh i n work.old out.old }
+    ensures { FromDone (checked_inputs slanted.now.inputs) fresh i n work.old work.new out.new }
+{
+    let mut a = [S::Value::zero(); 1536];
+    let mut b = [S::Value::zero(); 1536];
+    let mut c = [S::Value::zero(); 1536];
+    let mut rises = [S::zero(); 1536];
+    let mut falls = [S::zero(); 1536];
+    start(slanted, i, &mut a, &mut b, &mut rises, &mut falls);
+    S::Value::load(&slanted.inputs.source, 128 + i - slanted.height, &mut c);
+    let begin = top_row(fresh, slanted, &rises, &falls, work, out);
+    after(
+        slanted,
+        i,
+        n,
+        &mut a,
+        &mut b,
+        &mut c,
+        &mut rises,
+        &mut falls,
+        work,
+        &mut out[begin..],
+    );
+}

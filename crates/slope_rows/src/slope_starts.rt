@@ -1,0 +1,58 @@
+// The slopes of a diamond's or hexagon's edges on the row where a call begins.
+
+ghost use Rattle.std.specs.Prelude.{◌≡◌, ◌≤◌, length, map};
+ghost use Rattle.numbers.specs.Grid.{tabulate};
+ghost use Rattle.spec_picture.specs.Plane.{plane_number};
+ghost use Rattle.slope_rows.specs.Edges.{StartAsked, Started, across_slopes, AcrossAsked};
+
+use crate::kept_slopes::SlantedInputs;
+use arithmetic::wrapping;
+use slope_loops::leans;
+use slope_loops::leans::Slope;
+use slope_loops::padding::PlaneValue;
+
+// The rows and the slopes are arrays apart here, and no struct: `slope_rows::edges::rows::rows_from` says why.
+
+// The slopes of row i, h cells of each.
+#[tactic(auto, unfolding(spec_picture::specs::Size::size_legal))]
+pub fn start<S: Slope>(
+    slanted: &SlantedInputs<'_>,
+    i: usize,
+    a: &mut [S::Value; 1536],
+    b: &mut [S::Value; 1536],
+    rises: &mut [S; 1536],
+    falls: &mut [S; 1536],
+)
+    requires { S.Value.holds (plane_number slanted.now.inputs.source.plane) × StartAsked slanted.now i (map S.Value.value a.old) (map S.Value.value b.old) (map S.sum rises.old) (map S.sum falls.old) }
+    ensures { Started slanted.now i (map S.Value.value a.new) (map S.Value.value b.new) (map S.sum rises.new) (map S.sum falls.new) }
+{
+    let h = slanted.height;
+    let w = slanted.width;
+    let n = slanted.inputs.source.size.columns + w;
+    for t in 0..h {
+        S::Value::load(&slanted.inputs.source, 129 + i + t, a);
+        S::Value::load(&slanted.inputs.source, 128 + i - t, b);
+        leans::gather(a, b, n, 128, 256 + w - t, 256 + t - w, rises);
+        leans::gather(a, b, n, 384 - w, 256 + t - 2 * w, 256 - t, falls);
+    }
+}
+
+// The sums of row 0 from its first one, `corner`: nothing lies above the row, so from column to column the rising slopes come in and the falling ones go. out is a copy.
+pub fn first<S: Slope>(
+    corner: i64,
+    rises: &[S; 1536],
+    falls: &[S; 1536],
+    work: &mut [i64],
+    out: &mut [i64],
+)
+    requires { AcrossAsked (map S.sum rises.now) (map S.sum falls.now) work.old out.old }
+    ensures { (work.new ≡ tabulate (length work.old) (across_slopes corner (map S.sum rises.now) (map S.sum falls.now))) × (out.new ≡ tabulate (length work.old) (across_slopes corner (map S.sum rises.now) (map S.sum falls.now))) }
+{
+    let mut sum = corner;
+    for j in 0..work.len() {
+        work[j] = sum;
+        out[j] = sum;
+        let change = wrapping::wrapping_sub(rises[j + 128].whole(), falls[j + 385].whole());
+        sum = wrapping::wrapping_add(sum, change);
+    }
+}

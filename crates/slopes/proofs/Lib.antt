@@ -1,4 +1,0 @@
-pub mod Moves
-pub mod Parts
-pub mod Loops
-pub mod Examples

@@ -1,2 +1,0 @@
-// What smoothing and the search for the first steady cell are. Definitions and laws; the functions are in `smoothing`.
-#![tactic(auto)]

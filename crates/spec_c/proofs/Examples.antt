@@ -1,0 +1,97 @@
+-- Worked examples of replies: what C sees of an answer, of a refusal, and of an answer with no value.
+-- Assumes nothing.
+use mathlib.Core.Path.{◌≡◌, refl}
+use mathlib.Core.Bool.{false}
+use mathlib.Core.List.{List, [], ◌∷◌}
+use Prim.Native.Nat.{ℕ}
+use lib.IntN.{ℤ, pos, negsuc}
+use lib.Ieee.{fin, round}
+use Rattle.numbers.specs.Sum.{sum_to, pick}
+use Rattle.numbers.specs.Round.{floor_div, nearest, root_step, root_in, root, root_over}
+use Rattle.spec_picture.specs.Refusal.{refusal, outcome}
+use Rattle.spec_picture.specs.declared.Cell.{Cell}
+use Rattle.spec_picture.specs.Size.{size, cell, size_legal, in_range}
+use Rattle.spec_picture.specs.Window.{window, rectangle_legal, window_legal, shape_of, height, reach}
+use Rattle.spec_picture.specs.Picture.{no_shift, shift_legal, inputs, counts, plane_value, plane_at}
+use Rattle.spec_picture.specs.Direct.{window_sum, direct_sum, direct_call}
+use Rattle.spec_statistics.specs.declared.Sums.{Sums}
+use Rattle.spec_statistics.specs.SixSums.{impossible}
+use Rattle.spec_statistics.specs.Moments.{mean, deviation, unless_empty, mean_call}
+use Rattle.spec_statistics.specs.Voice.{over32768, voice, voice_call}
+use Rattle.spec_statistics.specs.Coefficient.{signed, magnitude, coefficient, coefficient_call}
+use Rattle.spec_smoothing.specs.Steady.{find_column, or_else, find_cell, first_steady, steady_call}
+use Rattle.spec_c.specs.Reply.{Reply, VoiceResult, with_value, status, result_or, reply, sums, of_whole, of_coefficient, of_cell, voice_result, of_voice}
+
+-- ---- the direct sum of a plane of the picture 1 2 over a window of one cell
+abbrev direct : (plane column : ℕ) → Reply ℤ
+direct p j = reply with_value (direct_call (inputs (size 1 2) (pos 1 ∷ pos 2 ∷ []) (pos 1 ∷ pos 2 ∷ []) (window 1 (pos 0) (pos 0)) no_shift p) 0 j)
+
+-- an answer has status 0, and its sum takes the place of what stood behind the pointer; a call that is refused has its number for a status,
+-- 5 for a plane above 5 and 6 for a cell outside, and leaves what stood there
+pub sums-replied :
+    (status (direct 1 1) ≡ pos 0) × (result_or (pos 77) (direct 1 1) ≡ pos 2) ×
+    (status (direct 6 1) ≡ pos 5) × (result_or (pos 77) (direct 6 1) ≡ pos 77) ×
+    (status (direct 1 2) ≡ pos 6) × (result_or (pos 77) (direct 1 2) ≡ pos 77)
+unfolding status result_or reply direct_call outcome refusal direct_sum window_sum plane_at plane_value counts in_range shape_of height reach window_legal rectangle_legal size_legal shift_legal sum_to pick
+sums-replied = (refl, refl, refl, refl, refl, refl)
+
+-- ---- the mean
+-- the sums of no cell, and those of f -1 -2
+abbrev no_cell : Sums
+no_cell = sums (pos 0) (pos 0) (pos 0) (pos 0) (pos 0) (pos 0)
+
+abbrev below0 : Sums
+below0 = sums (pos 2) (negsuc 2) (pos 0) (pos 5) (pos 0) (pos 0)
+
+abbrev means : Sums → Reply ℤ
+means z = reply of_whole (mean_call z)
+
+-- -1 and -2 have mean -1; no cell is Empty, -1, which leaves what stood behind the pointer; N below 0 is impossible, 9
+pub means-replied :
+    (status (means below0) ≡ pos 0) × (result_or (pos 77) (means below0) ≡ negsuc 0) ×
+    (status (means no_cell) ≡ negsuc 0) × (result_or (pos 77) (means no_cell) ≡ pos 77) ×
+    (status (means (sums (negsuc 0) (pos 0) (pos 0) (pos 0) (pos 0) (pos 0))) ≡ pos 9)
+unfolding status result_or reply mean_call mean unless_empty nearest floor_div outcome refusal impossible
+means-replied = (refl, refl, refl, refl, refl)
+
+-- ---- the coefficient
+-- the sums of f 1 2 3 and g 3 2 1, and of f 1 2 3 and g 4 4 4
+abbrev opposed : Sums
+opposed = sums (pos 3) (pos 6) (pos 6) (pos 14) (pos 14) (pos 10)
+
+abbrev flat_g : Sums
+flat_g = sums (pos 3) (pos 6) (pos 12) (pos 14) (pos 48) (pos 24)
+
+abbrev correlated : Sums → Reply ℤ
+correlated z = reply of_coefficient (coefficient_call z)
+
+-- the first have -1000; the second are Flat, -2; no cell is Empty, -1
+pub coefficients-replied :
+    (status (correlated opposed) ≡ pos 0) × (result_or (pos 77) (correlated opposed) ≡ negsuc 999) ×
+    (status (correlated flat_g) ≡ negsuc 1) × (status (correlated no_cell) ≡ negsuc 0)
+unfolding status result_or reply coefficient_call coefficient signed magnitude root_step root_in root root_over outcome refusal impossible
+coefficients-replied = (refl, refl, refl, refl)
+
+-- ---- the voice, where kind 7, level 1 and spread 1 stood
+abbrev heard : Sums → VoiceResult
+heard z = result_or (voice_result 7 (fin false 1 (pos 0)) (fin false 1 (pos 0))) (reply of_voice (voice_call z))
+
+-- one cell of level 0 is Steady, kind 1, and its spread is written too; cells 0, 0, 1 are Grainy, kind 2; no cell leaves all three
+pub voices-replied :
+    (heard (sums (pos 1) (pos 0) (pos 0) (pos 0) (pos 0) (pos 0)) ≡ voice_result 1 (fin false 0 (pos 0)) (fin false 0 (pos 0))) ×
+    (heard (sums (pos 3) (pos 1) (pos 0) (pos 1) (pos 0) (pos 0)) ≡ voice_result 2 (fin false 0 (pos 0)) (fin false 0 (pos 0))) ×
+    (heard no_cell ≡ voice_result 7 (fin false 1 (pos 0)) (fin false 1 (pos 0)))
+unfolding result_or reply voice_call voice mean deviation nearest floor_div root_step root_in root root_over over32768 round outcome refusal impossible
+voices-replied = (refl, refl, refl)
+
+-- ---- the search over one row and three columns, where row 8 and column 9 stood
+abbrev searched : List ℤ → Reply Cell
+searched f = reply of_cell (steady_call (size 1 3) f f (window 1 (pos 0) (pos 1)) no_shift)
+
+-- 1 2 2 is steady at its last cell; 1 2 1 nowhere, -3; two levels are no picture of this size, 2
+pub cells-replied :
+    (status (searched (pos 1 ∷ pos 2 ∷ pos 2 ∷ [])) ≡ pos 0) × (result_or (cell 8 9) (searched (pos 1 ∷ pos 2 ∷ pos 2 ∷ [])) ≡ cell 0 2) ×
+    (status (searched (pos 1 ∷ pos 2 ∷ pos 1 ∷ [])) ≡ negsuc 2) × (result_or (cell 8 9) (searched (pos 1 ∷ pos 2 ∷ pos 1 ∷ [])) ≡ cell 8 9) ×
+    (status (searched (pos 1 ∷ pos 2 ∷ [])) ≡ pos 2)
+unfolding status result_or reply steady_call first_steady find_cell find_column or_else outcome voice direct_sum window_sum plane_at plane_value counts in_range shape_of height reach window_legal rectangle_legal size_legal shift_legal refusal sum_to pick
+cells-replied = (refl, refl, refl, refl, refl)

@@ -1,0 +1,85 @@
+-- Worked examples: the planes of two small pictures under a shift, their sums over a window at the border, and refusals at the limits.
+-- Assumes nothing.
+use mathlib.Core.Path.{◌≡◌, refl}
+use Prim.Native.Nat.{ℕ}
+use mathlib.Core.List.{List, [], ◌∷◌}
+use mathlib.Core.Option.{none, some}
+use lib.IntN.{ℤ, pos, negsuc}
+use Rattle.numbers.specs.Sum.{sum_to, pick}
+use Rattle.spec_picture.specs.Refusal.{refusal}
+use Rattle.spec_picture.specs.declared.Shift.{Shift}
+use Rattle.spec_picture.specs.declared.Window.{Window}
+use Rattle.spec_picture.specs.Size.{size, size_legal, in_range}
+use Rattle.spec_picture.specs.Window.{window, rectangle_legal, diamond_legal, hexagon_legal, window_legal, shape_of, height, reach}
+use Rattle.spec_picture.specs.Picture.{shift, shift_legal, inputs, counts, plane_value, plane_at}
+use Rattle.spec_picture.specs.Conditions.{check1, check3, check4, check7, check8}
+use Rattle.spec_picture.specs.Direct.{window_sum, direct_sum}
+
+-- f is 1 2 3 / 4 5 6, and g is 10 20 30 / 40 50 60
+abbrev f : List ℤ
+f = pos 1 ∷ pos 2 ∷ pos 3 ∷ pos 4 ∷ pos 5 ∷ pos 6 ∷ []
+
+abbrev g : List ℤ
+g = pos 10 ∷ pos 20 ∷ pos 30 ∷ pos 40 ∷ pos 50 ∷ pos 60 ∷ []
+
+abbrev sum : Window → Shift → (plane i j : ℕ) → ℤ
+sum w d p i j = direct_sum (inputs (size 2 3) f g w d p) i j
+
+-- a window of one cell, and a rectangle 1, 1
+abbrev one : Window
+one = window 1 (pos 0) (pos 0)
+
+abbrev around : Window
+around = window 1 (pos 1) (pos 1)
+
+-- the shifts (0, 1) and (1, -1)
+abbrev right : Shift
+right = shift (pos 0) (pos 1)
+
+abbrev down-left : Shift
+down-left = shift (pos 1) (negsuc 0)
+
+-- "2, g(m+u, n+v); 3 and 4, the squares of those two; 5, their product", at one cell
+pub shifted :
+    (sum one right 2 0 0 ≡ pos 20) × (sum one right 5 1 0 ≡ pos 200) ×
+    (sum one down-left 1 0 1 ≡ pos 2) × (sum one down-left 2 0 1 ≡ pos 40) × (sum one down-left 3 0 1 ≡ pos 4) × (sum one down-left 4 0 1 ≡ pos 1600) × (sum one down-left 5 0 1 ≡ pos 80)
+unfolding direct_sum window_sum plane_at plane_value counts in_range shape_of height reach sum_to pick
+shifted = (refl, refl, refl, refl, refl, refl, refl)
+
+-- "At every other cell it is 0": past the last column, before the first one, and below the last row
+pub elsewhere : (sum one right 2 0 2 ≡ pos 0) × (sum one down-left 1 0 0 ≡ pos 0) × (sum one down-left 0 1 1 ≡ pos 0)
+unfolding direct_sum window_sum plane_at plane_value counts in_range shape_of height reach sum_to pick
+elsewhere = (refl, refl, refl)
+
+-- "here it is clipped": how many cells count, and the sum of their products
+pub counted : (sum around right 0 0 0 ≡ pos 4) × (sum around right 5 0 0 ≡ pos 580) × (sum around down-left 0 0 0 ≡ pos 1) × (sum around down-left 5 0 1 ≡ pos 230)
+unfolding direct_sum window_sum plane_at plane_value counts in_range shape_of height reach sum_to pick
+counted = (refl, refl, refl, refl)
+
+-- "256 rows pass, 0 and 257 give 1"
+pub rows-limits : (refusal (check1 (size 256 1) ∷ []) ≡ none) × (refusal (check1 (size 0 1) ∷ []) ≡ some 1) × (refusal (check1 (size 257 1) ∷ []) ≡ some 1)
+unfolding refusal size_legal
+rows-limits = (refl, refl, refl)
+
+-- "radius 127 passes, 128 gives 3", and so do a diamond's second number, k + h above 127 and shape 4
+pub window-limits :
+    (refusal (check3 (window 2 (pos 127) (pos 0)) ∷ []) ≡ none) × (refusal (check3 (window 2 (pos 128) (pos 0)) ∷ []) ≡ some 3) ×
+    (refusal (check3 (window 2 (pos 1) (pos 1)) ∷ []) ≡ some 3) × (refusal (check3 (window 3 (pos 64) (pos 64)) ∷ []) ≡ some 3) × (refusal (check3 (window 4 (pos 1) (pos 1)) ∷ []) ≡ some 3)
+unfolding refusal window_legal rectangle_legal diamond_legal hexagon_legal
+window-limits = (refl, refl, refl, refl, refl)
+
+-- u from -255 to 255 and v from -1,023 to 1,023
+pub shift-limits : (refusal (check4 (shift (negsuc 254) (pos 1023)) ∷ []) ≡ none) × (refusal (check4 (shift (negsuc 255) (pos 0)) ∷ []) ≡ some 4) × (refusal (check4 (shift (pos 0) (pos 1024)) ∷ []) ≡ some 4)
+unfolding refusal shift_legal
+shift-limits = (refl, refl, refl)
+
+-- "position above rows, or request above rows minus position", of 2 rows: 2 and 0, 1 and 1 pass; 3 and 0, 1 and 2 give 7
+pub request-limits :
+    (refusal (check7 (size 2 3) 2 0 ∷ []) ≡ none) × (refusal (check7 (size 2 3) 1 1 ∷ []) ≡ none) × (refusal (check7 (size 2 3) 3 0 ∷ []) ≡ some 7) × (refusal (check7 (size 2 3) 1 2 ∷ []) ≡ some 7)
+unfolding refusal
+request-limits = (refl, refl, refl, refl)
+
+-- "area of another length": shorter or longer
+pub length-limits : (refusal (check8 6 6 ∷ []) ≡ none) × (refusal (check8 6 5 ∷ []) ≡ some 8) × (refusal (check8 6 7 ∷ []) ≡ some 8)
+unfolding refusal
+length-limits = (refl, refl, refl)

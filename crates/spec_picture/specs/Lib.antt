@@ -1,0 +1,12 @@
+pub mod Answers
+pub mod Checked
+pub mod Conditions
+pub mod Direct
+pub mod Given
+pub mod Offsets
+pub mod Picture
+pub mod Plane
+pub mod Refusal
+pub mod Shape
+pub mod Size
+pub mod Window

@@ -1,0 +1,49 @@
+-- The size of a picture, its cells, and how far apart its rows and its columns are.
+-- Assumes nothing.
+use Rattle.std.specs.Prelude.{ℕ, ◌*◌, ◌<◌, Bool, false, ◌&&◌, leb, ltb, ℤ, pos, negsuc, nat_abs}
+use Rattle.numbers.specs.Sum.{dist}
+use Rattle.spec_picture.specs.declared.Size.{Size}
+use Rattle.spec_picture.specs.declared.Cell.{Cell}
+
+abbrev pub size : (rows columns : ℕ) → Size
+size r c = record { rows = r; columns = c }
+
+abbrev pub cell : (row column : ℕ) → Cell
+cell i j = record { row = i; column = j }
+
+-- "A picture has 1 to 256 rows and 1 to 1,024 columns."
+unfoldable pub size_legal : Size → Bool
+size_legal z = leb 1 z.rows && leb z.rows 256 && leb 1 z.columns && leb z.columns 1024
+
+-- "rows times columns"
+abbrev pub cells : Size → ℕ
+cells z = z.rows * z.columns
+
+-- A cell of the picture. It stands in contracts, since it is said of a cell and of a size: a type that said it would hold both, or be made anew wherever the size
+-- stands in another type.
+pub record Within (z : Size) (i j : ℕ) : Type 0 where
+  pub row : i < z.rows
+  pub column : j < z.columns
+
+-- how far apart two rows, and two columns, of the picture are
+abbrev pub row_gap : Size → ℕ → ℕ → ℕ
+row_gap z i m = dist i m
+
+abbrev pub column_gap : Size → ℕ → ℕ → ℕ
+column_gap z j n = dist j n
+
+-- a signed place is one of the n first
+unfoldable pub in_range : ℕ → ℤ → Bool
+in_range n (pos k) = ltb k n
+in_range n (negsuc k) = false
+
+-- the cell at a signed row and column is inside the picture
+abbrev pub inside : Size → (row column : ℤ) → Bool
+inside z r c = in_range z.rows r && in_range z.columns c
+
+-- the row, and the column, at a signed place that is inside
+abbrev pub row_at : Size → ℤ → ℕ
+row_at z r = nat_abs r
+
+abbrev pub column_at : Size → ℤ → ℕ
+column_at z c = nat_abs c

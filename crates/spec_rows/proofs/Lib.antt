@@ -1,0 +1,6 @@
+pub mod Calls
+pub mod Cells
+pub mod Distances
+pub mod Examples
+pub mod Steps
+pub mod Strips

@@ -1,0 +1,2 @@
+// The row session: what it means. Definitions and laws; the functions are in `row_session`.
+#![tactic(auto)]

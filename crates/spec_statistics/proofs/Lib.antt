@@ -1,0 +1,10 @@
+pub mod Answers
+pub mod Bounds
+pub mod Examples
+pub mod Fits
+pub mod Floats
+pub mod Forms
+pub mod Halving
+pub mod Inner
+pub mod Possible
+pub mod Values

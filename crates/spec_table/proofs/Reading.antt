@@ -1,0 +1,146 @@
+-- Reading the table that was built gives the direct sum.
+-- Assumes nothing.
+use mathlib.Core.Path.{◌≡◌, refl, sym, ◌∙◌, ap}
+use Prim.Native.Nat.{ℕ, zero, suc, ◌+◌, ◌-◌, ◌^◌, ◌≤◌, ◌<◌, min}
+use native.Mathlib.Omega.{arith}
+use native.Mathlib.Nat.{mul-le-mul}
+use mathlib.Core.Bool.{not, ◌&&◌}
+use mathlib.Core.List.{List, [], ◌∷◌}
+use mathlib.Core.Option.{none}
+use lib.Dec.{leb, ltb, eqb}
+use lib.ListN.{length}
+use lib.IntN.{ℤ, pos, nat_abs}
+use Rattle.numbers.specs.Sum.{sum_to, pick, dist}
+use Rattle.numbers.specs.Grid.{grid}
+use Rattle.numbers.specs.Wrap.{wrap}
+use Rattle.numbers.proofs.Linear.{Diff, any, sums, ring}
+use Rattle.numbers.proofs.Sums.{sum-suc, sum-cong, sum-zero, sum-sub, sum_near}
+use Rattle.numbers.proofs.Grids.{length-rows, get_or-grid}
+use Rattle.numbers.proofs.Wraps.{wrap-small}
+use Rattle.spec_picture.specs.Refusal.{answered, refusal, numbers_of}
+use Rattle.numbers.proofs.Tests.{not-of}
+use Rattle.spec_picture.specs.declared.Window.{Window}
+use Rattle.spec_picture.specs.Window.{Shape, rectangle, slanted, window_legal, shape_of, height, reach}
+use Rattle.spec_picture.specs.declared.Size.{Size}
+use Rattle.spec_picture.specs.Size.{row_gap, column_gap, cells, size_legal}
+use Rattle.spec_picture.specs.Picture.{Levels, Source, Inputs, plane_at, shift_legal}
+use Rattle.spec_picture.specs.Conditions.{accepted}
+use Rattle.spec_picture.specs.Direct.{window_sum, direct_sum}
+use Rattle.spec_picture.proofs.Refusals.{InLimits, in-limits, accepted-has, outcome-none, filling-none, pass, no-checks, length-passes, cell-passes}
+use Rattle.spec_picture.proofs.Windows.{by_rows, window-bound}
+use Rattle.spec_picture.proofs.Planes.{plane-bound}
+use Rattle.spec_table.specs.Table.{table_at, table_of, corner, four_corners, read_rectangle, read_rows, read_shape, read_table, read_checks, read_call, build_checks, build_call}
+
+-- the sum over the first x rows and the first y columns
+abbrev prefix : (ℕ → ℕ → ℤ) → ℕ → ℕ → ℤ
+prefix P x y = sum_to x (λ m. sum_to y (λ n. P m n))
+
+abbrev sum-atom : (n : ℕ) (f : ℕ → ℤ) → Diff (sum_to n f)
+sum-atom n f = any (sum_to n f)
+
+module _ (z : Size) (P : ℕ → ℕ → ℤ) (lim : InLimits z) where
+  abbrev built : List ℤ
+  built = grid z.rows z.columns (table_at P)
+
+  -- a corner of the table that was built
+  corner-is : (x y : ℕ) → corner z built x y ≡ prefix P (min x z.rows) (min y z.columns)
+  unfolding corner table_at
+  corner-is zero y =
+      let e : min 0 z.rows ≡ 0 = omega arith in
+      rw e (unfold sum_to in refl)
+  corner-is (suc x) zero =
+      let e : min 0 z.columns ≡ 0 = omega arith in
+      rw e (sym (unfold sum_to in sum-zero (min (suc x) z.rows)))
+  corner-is (suc x) (suc y) =
+      let e : min (suc x) z.rows ≡ suc (min x (z.rows - 1)) = omega (arith, lim.some_rows) in
+      let e' : min (suc y) z.columns ≡ suc (min y (z.columns - 1)) = omega (arith, lim.some_columns) in
+      rw (e, e') (get_or-grid z.rows z.columns (min x (z.rows - 1)) (min y (z.columns - 1)) (table_at P) (pos 0) (omega (arith, lim.some_rows)) (omega (arith, lim.some_columns)))
+
+  -- a rectangle
+  read-rectangle : (a b i j : ℕ) → read_rectangle z built a b i j ≡ window_sum z (rectangle a b) P i j
+  unfolding four_corners height reach
+  read-rectangle a b i j =
+      rw (by_rows z (rectangle a b) P i j) (simp (corner-is, sum_near, sum-sub) (ring (search (sums, sum-atom) depth 12) (omega arith)))
+
+  -- one row of a window
+  read-row : (r m j : ℕ) → m < z.rows → read_rectangle z built 0 r m j ≡ sum_to z.columns (λ n. pick (leb (dist j n) r) (P m n))
+  unfolding four_corners
+  read-row r m j h =
+      let e0 : m - 0 ≡ m = omega arith in
+      let e1 : suc (m + 0) ≡ suc m = omega arith in
+      let e2 : min m z.rows ≡ m = omega arith in
+      let e3 : min (suc m) z.rows ≡ suc m = omega arith in
+      rw (e0, e1) (simp (corner-is, sum_near) (rw (e2, e3) (simp sum-suc (ring (search (sums, sum-atom) depth 12) (omega arith)))))
+
+  read-rows : (s : Shape) (i j : ℕ) → read_rows z built s i j ≡ window_sum z s P i j
+  read-rows s i j =
+      sum-cong z.rows (λ m. pick (leb (row_gap z i m) (height s)) (read_rectangle z built 0 (reach s (row_gap z i m)) m j))
+      (λ m. pick (leb (row_gap z i m) (height s)) (sum_to z.columns (λ n. pick (leb (column_gap z j n) (reach s (row_gap z i m))) (P m n))))
+      (λ m h. ap (pick (leb (row_gap z i m) (height s))) (read-row (reach s (row_gap z i m)) m j h))
+      ∙ sym (by_rows z s P i j)
+
+  module _ (small : (m n : ℕ) → nat_abs (P m n) ≤ 2 ^ 30) where
+    -- no sum over a picture comes near 2 ^ 63
+    pub window-fits : (s : Shape) (i j : ℕ) → nat_abs (window_sum z s P i j) < 2 ^ 63
+    window-fits s i j =
+        omega (arith, window-bound z s P (2 ^ 30) i j small, mul-le-mul lim.few_rows lim.few_columns)
+
+    pub read-shape : (s : Shape) (i j : ℕ) → read_shape z built s i j ≡ window_sum z s P i j
+    unfolding read_shape
+    read-shape (rectangle a b) i j = ap wrap (read-rectangle a b i j) ∙ wrap-small (window_sum z (rectangle a b) P i j) (window-fits (rectangle a b) i j)
+    read-shape (slanted o) i j = ap wrap (read-rows (slanted o) i j) ∙ wrap-small (window_sum z (slanted o) P i j) (window-fits (slanted o) i j)
+
+module _ (x : Inputs) (ok : accepted x) (hf : Levels x.source.f) (hg : Levels x.source.g) where
+  lim : InLimits x.source.size
+  lim = in-limits x.source.size (accepted-has x ok).size
+
+  -- reading gives the direct sum
+  pub read-direct : (i j : ℕ) → read_table x.source.size (table_of x.source) x.window i j ≡ direct_sum x i j
+  unfolding read_table table_of direct_sum
+  read-direct i j = read-shape x.source.size (plane_at x.source) lim (plane-bound x.source hf hg) (shape_of x.window) i j
+
+  pub length-table : length (table_of x.source) ≡ cells x.source.size
+  unfolding table_of
+  length-table = length-rows 0 x.source.size.rows x.source.size.columns (table_at (plane_at x.source))
+
+  -- building is taken, and fills the area with the table
+  pub build-fills : (area : List ℤ) → length area ≡ cells x.source.size → build_call x.source area ≡ record { answer = answered tt; area = table_of x.source }
+  unfolding build_call
+  build-fills area e = filling-none (refusal (build_checks x.source area)) area (table_of x.source) taken
+    where
+      taken : refusal (build_checks x.source area) ≡ none
+      taken =
+          let s = x.source in
+          let a = accepted-has x ok in
+          pass 1 (not (size_legal s.size)) _ (not-of (size_legal s.size) a.size)
+          ∙ pass 2 (not (eqb (length s.f) (cells s.size))) _ (length-passes (length s.f) (cells s.size) a.length_f)
+          ∙ pass 2 (not (eqb (length s.g) (cells s.size))) _ (length-passes (length s.g) (cells s.size) a.length_g)
+          ∙ pass 4 (not (shift_legal s.shift)) _ (not-of (shift_legal s.shift) a.shift)
+          ∙ pass 5 (ltb 5 s.plane) _ a.plane
+          ∙ pass 8 (not (eqb (length area) (cells s.size))) [] (length-passes (length area) (cells s.size) e)
+          ∙ no-checks
+
+  -- reading that table answers with the direct sum at every cell of the picture
+  pub read-answers : (i j : ℕ) → i < x.source.size.rows → j < x.source.size.columns → read_call x.source.size (table_of x.source) x.window i j ≡ answered (direct_sum x i j)
+  unfolding read_call
+  read-answers i j hi hj =
+      outcome-none (refusal (read_checks x.source.size (table_of x.source) x.window i j)) (read_table x.source.size (table_of x.source) x.window i j) taken ∙ ap answered (read-direct i j)
+    where
+      taken : refusal (read_checks x.source.size (table_of x.source) x.window i j) ≡ none
+      taken =
+          let z = x.source.size in
+          let a = accepted-has x ok in
+          pass 1 (not (size_legal z)) _ (not-of (size_legal z) a.size)
+          ∙ pass 3 (not (window_legal x.window)) _ (not-of (window_legal x.window) a.window)
+          ∙ pass 6 (not (ltb i z.rows && ltb j z.columns)) _ (cell-passes z i j hi hj)
+          ∙ pass 8 (not (eqb (length (table_of x.source)) (cells z))) [] (length-passes (length (table_of x.source)) (cells z) length-table)
+          ∙ no-checks
+
+-- "Checks run in number order, each where the call has that input"
+pub build-order : (x : Source) (area : List ℤ) → numbers_of (build_checks x area) ≡ 1 ∷ 2 ∷ 2 ∷ 4 ∷ 5 ∷ 8 ∷ []
+unfolding numbers_of
+build-order x area = refl
+
+pub read-order : (z : Size) (t : List ℤ) (w : Window) (i j : ℕ) → numbers_of (read_checks z t w i j) ≡ 1 ∷ 3 ∷ 6 ∷ 8 ∷ []
+unfolding numbers_of
+read-order z t w i j = refl

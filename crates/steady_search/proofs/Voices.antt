@@ -1,0 +1,86 @@
+-- The voice answer of a cell: it is never refused, and N, S and A alone decide it.
+-- Assumes nothing.
+use mathlib.Core.Path.{◌≡◌, refl, ◌∙◌, ap}
+use mathlib.Core.Bool.{Bool, false}
+use mathlib.Core.List.{List}
+use Prim.Native.Nat.{ℕ, ◌+◌, ◌*◌, ◌<◌}
+use native.Mathlib.Omega.{arith}
+use lib.ListN.{get_or}
+use lib.IntN.{pos, ℤ, *ℤ-zero}
+use lib.Signed.{≤ℤ_refl}
+use Rattle.spec_picture.specs.Refusal.{Outcome, refused, answered}
+use Rattle.spec_picture.specs.Picture.{Inputs}
+use Rattle.spec_picture.specs.Direct.{direct_sum}
+use Rattle.spec_picture.proofs.Found.{Checked}
+use Rattle.spec_statistics.specs.declared.Sums.{Sums}
+use Rattle.spec_statistics.specs.SixSums.{on_plane, six_sums, impossible}
+use Rattle.spec_statistics.specs.Moments.{mean, deviation}
+use Rattle.spec_statistics.specs.Voice.{Voice, voice, voice_call}
+use Rattle.spec_statistics.proofs.Bounds.{possible-has, possible-of, answers}
+use Rattle.spec_statistics.proofs.Possible.{sums-possible}
+use Rattle.spec_smoothing.specs.Steady.{is_steady, find_cell, first_steady}
+use Rattle.steady_search.specs.Hearing.{first_sums, sums_at, steady_in}
+use Rattle.steady_search.proofs.Places.{same-cells}
+use Rattle.steady_search.proofs.Searching.{steady_at}
+
+-- ---- N, S and A alone
+pub voice-first : (z : Sums) → voice (first_sums z.n z.s z.a) ≡ voice z
+unfolding voice mean deviation
+voice-first z = refl
+
+pub possible-first : (z : Sums) → impossible z ≡ false → impossible (first_sums z.n z.s z.a) ≡ false
+possible-first z e =
+    let p = possible-has z e in
+    let b = p.bounded in
+    possible-of (first_sums z.n z.s z.a) (record {
+      bounded = record {
+        whole = b.whole;
+        few = b.few;
+        first = b.first;
+        second = omega arith;
+        square_f_whole = b.square_f_whole;
+        square_f = b.square_f;
+        square_g_whole = ≤ℤ_refl (pos 0);
+        square_g = omega arith;
+        product = omega arith;
+      };
+      spread_f = p.spread_f;
+      spread_g = rw *ℤ-zero (≤ℤ_refl (pos 0));
+      schwarz = simp *ℤ-zero (≤ℤ_refl (pos 0));
+    })
+
+-- ---- the public answer
+module _ (x : Inputs) (c : Checked x) where
+  pub cell-possible : (i j : ℕ) → impossible (six_sums x i j) ≡ false
+  cell-possible i j = sums-possible x c.levels_f c.levels_g c.window i j
+
+  pub voice_answers : (i j : ℕ) → voice_call (six_sums x i j) ≡ answered (voice (six_sums x i j))
+  unfolding voice_call
+  voice_answers i j = answers (six_sums x i j) (voice (six_sums x i j)) (possible-has (six_sums x i j) (cell-possible i j))
+
+-- a voice answer that is Steady
+abbrev pub answers_steady : Outcome Voice → Bool
+answers_steady (refused n) = false
+answers_steady (answered v) = is_steady v
+
+-- "the first cell in row order whose voice answer is Steady": the answer to the six direct sums of the cell
+pub first-by-answers : (x : Inputs) → Checked x → first_steady x ≡ find_cell (λ i j. answers_steady (voice_call (six_sums x i j))) x.source.size.columns 0 x.source.size.rows
+unfolding first_steady
+first-by-answers x c = simp (voice_answers x c)
+
+-- ---- from N, S and A of the rows from row i on
+module _ (x : Inputs) (c : Checked x) (i m : ℕ) (n s a : List ℤ)
+    (n-is : (r j : ℕ) → r < m → j < x.source.size.columns → get_or n (r * x.source.size.columns + j) (pos 0) ≡ direct_sum (on_plane x 0) (i + r) j)
+    (s-is : (r j : ℕ) → r < m → j < x.source.size.columns → get_or s (r * x.source.size.columns + j) (pos 0) ≡ direct_sum (on_plane x 1) (i + r) j)
+    (a-is : (r j : ℕ) → r < m → j < x.source.size.columns → get_or a (r * x.source.size.columns + j) (pos 0) ≡ direct_sum (on_plane x 3) (i + r) j) where
+  sums-are : (r j : ℕ) → r < m → j < x.source.size.columns → sums_at n s a (r * x.source.size.columns + j) ≡ first_sums (six_sums x (i + r) j).n (six_sums x (i + r) j).s (six_sums x (i + r) j).a
+  sums-are r j h l = rw (n-is r j h l, s-is r j h l, a-is r j h l)
+
+  pub rows-possible : (r j : ℕ) → r < m → j < x.source.size.columns → impossible (sums_at n s a (r * x.source.size.columns + j)) ≡ false
+  rows-possible r j h l = ap impossible (sums-are r j h l) ∙ possible-first (six_sums x (i + r) j) (cell-possible x c (i + r) j)
+
+  -- the first steady cell of those numbers is that of the rows
+  pub rows-steady : find_cell (steady_in x.source.size.columns n s a) x.source.size.columns 0 m ≡ find_cell (λ r. steady_at x (i + r)) x.source.size.columns 0 m
+  rows-steady =
+      same-cells (steady_in x.source.size.columns n s a) (λ r. steady_at x (i + r)) x.source.size.columns 0 m
+      (λ r j h l. ap is_steady (ap voice (sums-are r j (omega (arith, h)) l) ∙ voice-first (six_sums x (i + r) j)))

@@ -1,3 +1,0 @@
-pub mod RowCells
-pub mod Columns
-pub mod AcrossRows

@@ -1,6 +1,0 @@
--- `steps::step::gain` meets its contract. Assumes nothing.
-use Rattle.steps.proofs.RowCells.{gain-alone}
-use Rattle.steps.proofs.step.gain.Goals as goal
-
-pub returns : goal.returns
-returns c = gain-alone _ _ _ _ _ c.requires.room c.fill.ensures c.add_gain.ensures

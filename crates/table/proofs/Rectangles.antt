@@ -1,0 +1,109 @@
+-- A rectangle's corners and their sum, as code finds them.
+-- Assumes nothing.
+use mathlib.Core.Path.{◌≡◌, refl, sym, ◌∙◌, ap}
+use mathlib.Core.List.{List}
+use Prim.Native.Nat.{ℕ, zero, suc, ◌+◌, ◌-◌, ◌*◌, ◌≤◌, ◌<◌, min}
+use native.Mathlib.Omega.{arith}
+use mathlib.Core.Bool.{true, false, true≢false}
+use lib.Dec.{T}
+use lib.ListN.{length, get_or}
+use lib.IntN.{ℤ, pos, ◌+ℤ◌, ◌-ℤ◌}
+use Rattle.numbers.specs.Sum.{sum_to}
+use Rattle.numbers.specs.Wrap.{wrap}
+use Rattle.numbers.proofs.Grids.{place_inside}
+use Rattle.numbers.proofs.Sums.{near-range}
+use Rattle.numbers.proofs.Running.{wrap-wrap}
+use Rattle.numbers.proofs.Wraps.{wrap-add, wrap-sub}
+use Rattle.spec_picture.specs.declared.Size.{Size}
+use Rattle.spec_picture.specs.Size.{size_legal, row_gap, cells}
+use Rattle.spec_picture.specs.Window.{Shape, rectangle, slanted, window_legal, shape_of, is_rectangle, height, reach, width}
+use Rattle.spec_picture.specs.declared.Window.{Window}
+use Rattle.spec_picture.proofs.Refusals.{InLimits, in-limits}
+use Rattle.spec_picture.proofs.Windows.{dual, small}
+use Rattle.spec_table.specs.Table.{corner, four_corners, read_rectangle, read_rows, read_shape}
+
+-- ---- a corner
+module _ (z : Size) (t : List ℤ) where
+  -- "T being 0 left of and above the picture"
+  pub corner-above : (x y : ℕ) → x ≡ 0 → pos 0 ≡ corner z t x y
+  unfolding corner
+  corner-above zero y e = refl
+  corner-above (suc x) y e = absurd (omega arith)
+
+  pub corner-left : (x y : ℕ) → y ≡ 0 → pos 0 ≡ corner z t x y
+  unfolding corner
+  corner-left zero y e = refl
+  corner-left (suc x) zero e = refl
+  corner-left (suc x) (suc y) e = absurd (omega arith)
+
+  -- the last row and column that x and y reach
+  module _ (legal : T (size_legal z)) where
+    lim : InLimits z
+    lim = in-limits z legal
+
+    pub corner-inner : (x y u v : ℕ) → 0 < x → 0 < y → u ≡ min x z.rows → v ≡ min y z.columns → get_or t ((u - 1) * z.columns + (v - 1)) (pos 0) ≡ corner z t x y
+    unfolding corner
+    corner-inner zero y u v h k p q = absurd (omega arith)
+    corner-inner (suc x) zero u v h k p q = absurd (omega arith)
+    corner-inner (suc x) (suc y) u v h k p q =
+        let p' : u - 1 ≡ min x (z.rows - 1) = omega (arith, lim.some_rows) in
+        let q' : v - 1 ≡ min y (z.columns - 1) = omega (arith, lim.some_columns) in
+        rw (p', q')
+
+    -- the place that is read is one of the table's
+    pub corner-place : (x y u v : ℕ) → length t ≡ cells z → u ≡ min x z.rows → v ≡ min y z.columns → (u - 1) * z.columns + (v - 1) < length t
+    corner-place x y u v full p q = rw full (place_inside (omega (arith, lim.some_rows)) (omega (arith, lim.some_columns)))
+
+-- ---- four corners
+wrap-four : (a b c d : ℤ) → wrap (wrap (wrap (a -ℤ b) -ℤ c) +ℤ d) ≡ wrap (a -ℤ b -ℤ c +ℤ d)
+wrap-four a b c d = ap (λ (v : ℤ). wrap (v +ℤ d)) (wrap-sub (a -ℤ b) c) ∙ wrap-add (a -ℤ b -ℤ c) d
+
+-- the sum of four corners that were read, wrapped at each step
+pub four-read : (z : Size) (t : List ℤ) (top bottom left right : ℕ) (a b c d v w r : ℤ)
+    → a ≡ corner z t bottom right → b ≡ corner z t top right → c ≡ corner z t bottom left → d ≡ corner z t top left
+    → v ≡ wrap (a -ℤ b) → w ≡ wrap (v -ℤ c) → r ≡ wrap (w +ℤ d)
+    → r ≡ wrap (four_corners z t top bottom left right)
+unfolding four_corners
+four-read z t top bottom left right a b c d v w r ea eb ec ed ev ew er =
+    rw (er, ew, ev, ← ea, ← eb, ← ec, ← ed) (wrap-four a b c d)
+
+-- ---- a window row by row
+-- the part of row m that lies in the window on (i, j)
+abbrev pub row_part : Size → List ℤ → Shape → (i j m : ℕ) → ℤ
+row_part z t s i j m = read_rectangle z t 0 (reach s (row_gap z i m)) m j
+
+-- a row's part that was read
+pub part-read : (z : Size) (t : List ℤ) (s : Shape) (i j m d b : ℕ) (x : ℤ) → d ≡ row_gap z i m → b ≡ reach s d → x ≡ wrap (read_rectangle z t 0 b m j)
+    → wrap x ≡ wrap (row_part z t s i j m)
+part-read z t s i j m d b x ed eb ex = rw (ex, eb, ed) (wrap-wrap (row_part z t s i j m))
+
+-- the sum of the rows that a window holds, from its first up to its last
+pub rows-read : (z : Size) (t : List ℤ) (s : Shape) (i j lo m h : ℕ) (x : ℤ) → x ≡ wrap (sum_to (m - lo) (λ k. row_part z t s i j (lo + k)))
+    → i < z.rows → h ≡ height s → lo ≡ i - h → m ≡ min (suc (i + h)) z.rows
+    → x ≡ wrap (read_rows z t s i j)
+rows-read z t s i j lo m h x ex hi eh el em =
+    let e : lo ≡ min (i - height s) z.rows = omega arith in
+    let f : m ≡ min (suc (i + height s)) z.rows = omega arith in
+    rw (ex, e, f) (ap wrap (sym (near-range z.rows i (height s) (row_part z t s i j))))
+
+-- ---- a window by its shape
+pub read-as-rectangle : (z : Size) (t : List ℤ) (s : Shape) (a b i j : ℕ) (x : ℤ) → is_rectangle s ≡ true → a ≡ height s → b ≡ width s
+    → x ≡ wrap (read_rectangle z t a b i j) → x ≡ read_shape z t s i j
+unfolding read_shape height width
+read-as-rectangle z t (rectangle c d) a b i j x e ea eb ex = rw (ex, ea, eb)
+read-as-rectangle z t (slanted o) a b i j x e ea eb ex = absurd (true≢false (sym e))
+
+pub read-as-rows : (z : Size) (t : List ℤ) (s : Shape) (i j : ℕ) (x : ℤ) → is_rectangle s ≡ false → x ≡ wrap (read_rows z t s i j) → x ≡ read_shape z t s i j
+unfolding read_shape
+read-as-rows z t (rectangle c d) i j x e ex = absurd (true≢false e)
+read-as-rows z t (slanted o) i j x e ex = ex
+
+-- a legal window's width is at most 127
+pub width_small : (w : Window) → T (window_legal w) → width (shape_of w) ≤ 127
+width_small w t =
+    let s = shape_of w in
+    omega (arith, ((dual s).from 0 (width s) (omega arith) (omega arith)).1, (small w t).narrow 0)
+
+-- and so is its reach in any row
+pub reach-small : (w : Window) → T (window_legal w) → (d r : ℕ) → r ≡ reach (shape_of w) d → r ≤ 127
+reach-small w t d r e = omega (arith, e, (small w t).narrow d)

@@ -1,0 +1,67 @@
+-- `table::fill::whole` meets its contract. Assumes nothing.
+use mathlib.Core.Path.{◌≡◌, sym}
+use Prim.Native.Nat.{ℕ, ◌≤◌}
+use mathlib.Core.List.{[]}
+use native.Mathlib.Omega.{arith}
+use lib.Dec.{T}
+use lib.ListN.{length-append, length-drop}
+use lib.Seq.{length-take-le}
+use Rattle.numbers.proofs.Lines.{line-end, lines-all, tabulated-length}
+use Rattle.spec_picture.specs.declared.Size.{Size}
+use Rattle.spec_picture.specs.Size.{size_legal, cells}
+use Rattle.spec_picture.specs.Picture.{plane_at}
+use Rattle.spec_picture.specs.Checked.{checked_source}
+use Rattle.spec_picture.proofs.Refusals.{in-limits}
+use Rattle.spec_picture.proofs.Planes.{plane-bound}
+use Rattle.spec_table.specs.Table.{table_at, table_of}
+use Rattle.table.proofs.TableRows.{row-of-part, first-rows, next-rows}
+use Rattle.table.proofs.fill.whole.Goals as goal
+
+-- a row is at most the table
+row-fits : (z : Size) (n : ℕ) → T (size_legal z) → n ≡ cells z → z.columns ≤ n
+row-fits z n h e = omega (arith, e, line-end 0 z.rows z.columns (in-limits z h).some_rows)
+
+pub slice_bounds-first-end : goal.slice_bounds-first-end
+slice_bounds-first-end c = row-fits c.args.source.now.size _ c.args.source.now.legal c.requires
+
+pub slice_bounds-first-end-2 : goal.slice_bounds-first-end-2
+slice_bounds-first-end-2 c = sym (length-take-le _ _ (row-fits c.args.source.now.size _ c.args.source.now.legal c.requires))
+
+pub part-requires : goal.part-requires
+part-requires c = omega (arith, length-take-le _ _ (row-fits c.args.source.now.size _ c.args.source.now.legal c.requires))
+
+pub loop-i-init : goal.loop-i-init
+loop-i-init c =
+    let source = c.args.source.now in
+    let plane = checked_source source in
+    let fits = row-fits source.size _ source.legal c.requires in
+    let lim = in-limits source.size source.legal in
+    let width = length-take-le source.size.columns c.args.table.now fits in
+    record {
+      below = omega arith;
+      within = lim.some_rows;
+      full = simp (length-append, length-drop) (omega (arith, c.first_row.auto.row, c.part.auto.out, width, fits, c.requires));
+      lines = first-rows (plane_at plane) (plane-bound plane source.levels_f source.levels_g) source.size.columns lim.few_columns _ _ (row-of-part (plane_at plane) 0 width [] _ _ c.part.ensures c.first_row.ensures);
+    }
+
+pub loop-i-preserved : goal.loop-i-preserved
+loop-i-preserved c =
+    let source = c.args.source.now in
+    let plane = checked_source source in
+    let lim = in-limits source.size source.legal in
+    let l = c.loop-i in
+    let parts = c.split_at_mut-before.ensures in
+    record {
+      below = omega arith;
+      within = omega arith;
+      full = simp (length-append, length-drop) (omega (arith, parts.front_len, parts.back_len, tabulated-length c.table_row.new.row _ _ c.table_row.ensures, l.invariant.full, line-end l.i source.size.rows source.size.columns (omega arith)));
+      lines = next-rows (plane_at plane) (plane-bound plane source.levels_f source.levels_g) source.size.columns lim.few_columns l.i l.table _ _ _
+          l.invariant.below (omega (arith, lim.few_rows)) parts.front_len parts.front l.invariant.lines c.table_row.ensures;
+    }
+
+pub returns : goal.returns
+unfolding table_of
+returns c =
+    let source = c.args.source.now in
+    let e : c.loop-i.i ≡ source.size.rows = omega arith in
+    lines-all (table_at (plane_at (checked_source source))) source.size.columns c.loop-i.table source.size.rows (rw e at c.loop-i.invariant.lines) c.loop-i.invariant.full

@@ -1,0 +1,152 @@
+// The rival: sums straight from document 01's definitions, each cell of the picture asked whether it belongs.
+use crate::cases::{Case, Pictures};
+use crate::random;
+use spec_picture::{Cell, Inputs, Source};
+
+pub mod corners; // corners.rt: the rival's reading of a table
+pub mod moments; // moments.rt: the rival's statistics
+
+// The sum of what f gives below n, wrapped at 64 bits.
+pub fn total<F: Fn(usize) -> i64 + Drop>(n: usize, f: F) -> i64
+    requires { F.IsAlwaysCallable f }
+{
+    (0..n).fold(0i64, |s, k| s.wrapping_add(f(k)))
+}
+
+// How far a row of the window reaches that lies p rows from its cell, and none where the window has no such row.
+fn reach(c: Case, p: usize) -> Option<usize> {
+    match c.shape {
+        1 => (p <= c.first).then_some(c.second),
+        2 => c.first.checked_sub(p),
+        _ => {
+            let rest = c.first.saturating_add(c.second).saturating_sub(p);
+            (p <= c.second).then_some(rest)
+        }
+    }
+}
+
+// Whether the window on a cell holds another.
+fn holds(c: Case, on: Cell, cell: Cell) -> bool {
+    let q = cell.column.abs_diff(on.column);
+    match reach(c, cell.row.abs_diff(on.row)) {
+        Some(reach) => q <= reach,
+        None => false,
+    }
+}
+
+// The plane's value at a counting cell, where f and g have these levels.
+fn plane_value(plane: u32, f: i16, g: i16) -> i64 {
+    let f = i64::from(f);
+    let g = i64::from(g);
+    match plane {
+        0 => 1,
+        1 => f,
+        2 => g,
+        3 => f * f,
+        4 => g * g,
+        _ => f * g,
+    }
+}
+
+// Where a shift leads from row or column n of so many, and none where that is outside.
+fn shifted(n: usize, by: i32, count: usize) -> Option<usize> {
+    n.checked_add_signed(by as isize).filter(|to| *to < count)
+}
+
+// What the rival is given: a case and its two pictures.
+#[derive(Clone, Copy)]
+pub struct Given<'a> {
+    pub case: Case,
+    pub f: &'a [i16],
+    pub g: &'a [i16],
+}
+
+impl<'a> Given<'a> {
+    pub fn new(case: Case, pictures: &'a Pictures) -> Given<'a> {
+        Given {
+            case,
+            f: pictures.f(),
+            g: pictures.g(),
+        }
+    }
+
+    // What a call of the library takes.
+    pub fn inputs(&self) -> Inputs<'a> {
+        let c = self.case;
+        let source = Source {
+            size: c.size(),
+            f: self.f,
+            g: self.g,
+            shift: c.shift,
+            plane: c.plane,
+        };
+        Inputs {
+            source,
+            window: c.window(),
+        }
+    }
+
+    // "A cell (m, n) counts when it and (m+u, n+v) are both inside the picture." "At every other cell it is 0." The column is inside.
+    fn value(&self, cell: Cell) -> i64 {
+        let c = self.case;
+        let to = (
+            shifted(cell.row, c.shift.down, c.rows),
+            shifted(cell.column, c.shift.right, c.columns),
+        );
+        match to {
+            (Some(row), Some(column)) => plane_value(
+                c.plane,
+                random::read(self.f, c.place(cell)),
+                random::read(self.g, c.place(Cell { row, column })),
+            ),
+            _ => 0,
+        }
+    }
+
+    // "the sum of the plane over the window" that sits on a cell
+    pub fn sum(&self, on: Cell) -> i64 {
+        let c = self.case;
+        total(c.rows, |row| {
+            total(c.columns, |column| {
+                let cell = Cell { row, column };
+                if holds(c, on, cell) {
+                    self.value(cell)
+                } else {
+                    0
+                }
+            })
+        })
+    }
+
+    // The sum of a case that differs.
+    fn sum_of(&self, case: Case, on: Cell) -> i64 {
+        Given { case, ..*self }.sum(on)
+    }
+
+    // The sum of another plane.
+    pub fn plane_sum(&self, plane: u32, on: Cell) -> i64 {
+        let c = self.case;
+        self.sum_of(Case { plane, ..c }, on)
+    }
+
+    // "T(i, j) = the plane's sum over all (p, q) with p ≤ i and q ≤ j": over the rectangle of these numbers on (0, 0).
+    pub fn entry(&self, last: Cell) -> i64 {
+        let c = self.case;
+        let rectangle = Case {
+            shape: 1,
+            first: last.row,
+            second: last.column,
+            ..c
+        };
+        self.sum_of(rectangle, Cell { row: 0, column: 0 })
+    }
+
+    // The work area: a rectangle's column sum over rows i-a to i+a; a diamond's or hexagon's window sum.
+    pub fn work(&self, cell: Cell) -> i64 {
+        let c = self.case;
+        match c.shape {
+            1 => self.sum_of(Case { second: 0, ..c }, cell),
+            _ => self.sum(cell),
+        }
+    }
+}

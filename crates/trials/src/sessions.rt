@@ -1,0 +1,142 @@
+// Row sessions beside the rival's: lists of calls from a fresh session, and from foreign positions and work areas; some of the calls are to be refused.
+use local_statistics::{Cell, Refusal, rows_at};
+use std::io;
+use trial_support::cases::Case;
+use trial_support::rival::{Given, total};
+use trial_support::tally::Tally;
+use trial_support::{cases, random};
+
+// How many numbers an area has: 5 rows of 1,024, and one behind them.
+const ROOM: usize = 5121;
+
+// Where a list of calls stands: its position, and both areas. Arrays, since the trials have no heap.
+#[derive(Clone, Copy)]
+struct Stand {
+    position: usize,
+    work: [i64; ROOM],
+    out: [i64; ROOM],
+}
+
+// The number of the work area at a cell's column after its row. A call on a foreign work area adds to each of its numbers what the steps add to the definition's, so it
+// is found without the steps: as the definition's there, less the definition's at the row before the call.
+fn work(given: Given, before: &Stand, fresh: bool, cell: Cell) -> i64 {
+    let defined = given.work(cell);
+    match before.position.checked_sub(1) {
+        Some(row) if !fresh => {
+            let from = given.work(Cell { row, ..cell });
+            random::read(&before.work, cell.column).wrapping_add(defined.wrapping_sub(from))
+        }
+        _ => defined,
+    }
+}
+
+// The output number at a cell: of a fresh session the direct sum; "the wrapped sum of the new work area over columns j-b to j+b inside the picture; for the others ..
+// the new work area".
+fn output(given: Given, before: &Stand, fresh: bool, on: Cell) -> i64 {
+    let c = given.case;
+    match (fresh, c.shape) {
+        (true, _) => given.sum(on),
+        (false, 1) => total(c.columns, |column| {
+            if column.abs_diff(on.column) > c.second {
+                0
+            } else {
+                work(given, before, fresh, Cell { column, ..on })
+            }
+        }),
+        _ => work(given, before, fresh, on),
+    }
+}
+
+// Where the rival leaves the list after a call that grants so many rows.
+fn granted(given: Given, fresh: bool, request: usize, before: &Stand) -> Stand {
+    let c = given.case;
+    let end = before.position.saturating_add(request);
+    let mut after = Stand {
+        position: end,
+        ..*before
+    };
+    if request == 0 {
+        return after;
+    }
+    let row = end.saturating_sub(1);
+    for (column, number) in after.work.iter_mut().enumerate().take(c.columns) {
+        *number = work(given, before, fresh, Cell { row, column });
+    }
+    let cells = request.saturating_mul(c.columns);
+    for (k, number) in after.out.iter_mut().enumerate().take(cells) {
+        let cell = c.cell(k);
+        let row = before.position.saturating_add(cell.row);
+        *number = output(given, before, fresh, Cell { row, ..cell });
+    }
+    after
+}
+
+// The refusal of a call, none where it is to be granted.
+fn refused(c: Case, position: usize, request: usize, lent: usize) -> Option<Refusal> {
+    match c.rows.checked_sub(position) {
+        Some(left) if request <= left => {
+            let fits = lent == request.saturating_mul(c.columns);
+            (!fits).then_some(Refusal::Area)
+        }
+        _ => Some(Refusal::Position),
+    }
+}
+
+// One call, in seven of eight with an output area of the length that it wants: its answer, the position, and both areas with a number behind them.
+fn call(given: Given, fresh: bool, n: u64, before: Stand, t: Tally) -> (Stand, Tally) {
+    let c = given.case;
+    let request = [1usize, 2, 3, 0, 5, 300][(n / 64 % 6) as usize];
+    let wrong = usize::from(n / 4096 % 8 == 0);
+    let lent = request
+        .saturating_mul(c.columns)
+        .saturating_add(wrong)
+        .min(ROOM);
+    let mut after = before;
+    let answer = rows_at(
+        &given.inputs(),
+        &mut after.position,
+        request,
+        &mut after.work[..c.columns.min(ROOM)],
+        &mut after.out[..lent],
+    );
+    let (wanted, rows) = match refused(c, before.position, request, lent) {
+        Some(refusal) => (before, Err(refusal)),
+        None => (granted(given, fresh, request, &before), Ok(request)),
+    };
+    let compared = t
+        .with(answer, rows)
+        .with(after.position, wanted.position)
+        .with_first(c.columns.saturating_add(1), &after.work, &wanted.work)
+        .with_first(lent.saturating_add(1), &after.out, &wanted.out);
+    (after, compared)
+}
+
+// A list of nine calls on areas with foreign contents, begun fresh at position 0, or at any.
+fn session(case: Case, fresh: bool, tally: Tally) -> Tally {
+    let pictures = case.pictures();
+    let given = Given::new(case, &pictures);
+    let foreign = (case.seed / 16 % 32) as usize;
+    let area = random::foreign(ROOM, case.seed);
+    let mut stand = Stand {
+        position: if fresh { 0 } else { foreign },
+        work: area,
+        out: area,
+    };
+    let mut t = tally;
+    for k in 0..9usize {
+        let n = random::at(case.seed, k);
+        let (after, compared) = call(given, fresh, n, stand, t);
+        stand = after;
+        t = compared;
+    }
+    t
+}
+
+fn lists(fresh: bool) -> Tally {
+    (0..72).fold(Tally::default(), |t, k| session(cases::kth(k), fresh, t))
+}
+
+pub fn run(rt: &impl Print) -> io::Result<()> {
+    println!(rt; "rows of fresh sessions: {}", lists(true))?;
+    println!(rt; "rows of foreign sessions: {}", lists(false))
+}

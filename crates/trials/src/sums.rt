@@ -1,0 +1,69 @@
+// Direct sums and cumulative tables beside the rival's: the tables' entries, readings of built tables, and readings of tables with foreign contents.
+use local_statistics::{build, direct_sum, read};
+use std::io;
+use trial_support::cases::Case;
+use trial_support::random::CELLS;
+use trial_support::rival::Given;
+use trial_support::rival::corners::Table;
+use trial_support::tally::Tally;
+use trial_support::{cases, random};
+
+// The tallies of this group.
+#[derive(Clone, Copy, Default)]
+struct Tallies {
+    direct: Tally,
+    entries: Tally,
+    built: Tally,
+    foreign: Tally,
+}
+
+// The k-th cell.
+fn at_cell(given: Given, built: Table, foreign: Table, k: usize, t: Tallies) -> Tallies {
+    let c = given.case;
+    let cell = c.scattered(k);
+    let sum = given.sum(cell);
+    let entry: i64 = random::read(built.entries, c.place(cell));
+    Tallies {
+        direct: t.direct.with(direct_sum(&given.inputs(), cell), Ok(sum)),
+        entries: t.entries.with(entry, given.entry(cell)),
+        built: t
+            .built
+            .with(read(c.size(), built.entries, c.window(), cell), Ok(sum)),
+        foreign: t.foreign.with(
+            read(c.size(), foreign.entries, c.window(), cell),
+            Ok(foreign.reading(cell)),
+        ),
+    }
+}
+
+// One case: its pictures made, their table built in an area with foreign contents, and compared at 24 cells at most. The areas are arrays, since the trials
+// have no heap.
+fn of_case(case: Case, tallies: Tallies) -> Tallies {
+    let pictures = case.pictures();
+    let given = Given::new(case, &pictures);
+    let cells = case.cells().min(CELLS);
+    let before: [i64; CELLS] = random::foreign(cells, case.seed);
+    let mut area = before;
+    let answer = build(&given.inputs().source, &mut area[..cells]);
+    let begun = Tallies {
+        entries: tallies.entries.with(answer.err(), None),
+        ..tallies
+    };
+    let built = Table {
+        case,
+        entries: &area[..cells],
+    };
+    let foreign = Table {
+        case,
+        entries: &before[..cells],
+    };
+    (0..cells.min(24)).fold(begun, |t, k| at_cell(given, built, foreign, k, t))
+}
+
+pub fn run(rt: &impl Print) -> io::Result<()> {
+    let t = (0..72).fold(Tallies::default(), |t, k| of_case(cases::kth(k), t));
+    println!(rt; "direct sums: {}", t.direct)?;
+    println!(rt; "table entries: {}", t.entries)?;
+    println!(rt; "readings of built tables: {}", t.built)?;
+    println!(rt; "readings of foreign tables: {}", t.foreign)
+}
