@@ -32,6 +32,7 @@ int64_t plain_direct_sum(size_t rows, size_t columns, const int16_t *f, uint32_t
 void plain_rectangle(size_t rows, size_t columns, const int16_t *f, size_t a, size_t b, bool squares, int64_t *work, int64_t *out);
 void plain_slanted(size_t rows, size_t columns, const int16_t *f, size_t k, size_t h, int64_t *work, int64_t *out);
 void plain_smooth(size_t rows, size_t columns, const int16_t *f, size_t a, size_t b, int16_t *out);
+size_t plain_steady(size_t rows, size_t columns, const int16_t *f, size_t a, size_t b);
 }
 
 namespace {
@@ -70,11 +71,12 @@ struct Library {
     decltype(&ls_read) read;
     decltype(&ls_rows) rows;
     decltype(&ls_smooth) smooth;
+    decltype(&ls_steady) steady;
 };
 
-const Library NOW = {ls_direct_sum, ls_build, ls_read, ls_rows, ls_smooth};
+const Library NOW = {ls_direct_sum, ls_build, ls_read, ls_rows, ls_smooth, ls_steady};
 #ifdef WITH_OLD
-const Library OLD = {old_ls_direct_sum, old_ls_build, old_ls_read, old_ls_rows, old_ls_smooth};
+const Library OLD = {old_ls_direct_sum, old_ls_build, old_ls_read, old_ls_rows, old_ls_smooth, old_ls_steady};
 #endif
 
 // The whole picture's sums, by calls of n rows each.
@@ -92,6 +94,13 @@ void library_build(const Library &l, std::vector<int64_t> &out) {
 
 void library_smooth(const Library &l, Window w) {
     granted(l.smooth(ROWS, COLUMNS, picture.data(), CELLS, w.shape, w.first, w.second, means.data(), CELLS), "ls_smooth");
+}
+
+// The picture has no steady cell, so the search goes through all of it.
+void library_steady(const Library &l, Window w) {
+    size_t row = 0, column = 0;
+    const int32_t status = l.steady(ROWS, COLUMNS, picture.data(), CELLS, picture.data(), CELLS, w.shape, w.first, w.second, 0, 0, &row, &column);
+    if (status != LS_NOWHERE) fail("ls_steady answered " + std::to_string(status));
 }
 
 // ---- measuring
@@ -151,6 +160,9 @@ void copy_means() { std::memcpy(copied.data(), means.data(), CELLS * sizeof(int1
 
 std::string page;
 
+// The section's title, the lines so far on which OpenCV or plain Rust is the faster one, and the absolute times.
+std::string titled, slower, absolute;
+
 std::string number(double x) {
     char text[32];
     std::snprintf(text, sizeof text, x >= 99.5 ? "%.0f" : x >= 9.95 ? "%.1f" : "%.2f", x);
@@ -164,6 +176,7 @@ const bool with_old = false;
 #endif
 
 void section(const std::string &title, const std::string &text) {
+    titled = title;
     page += "\n## " + title + "\n\n" + text + "\n\n| What | Beside | Best times | Middle times |" + (with_old ? " Before |" : "") + "\n|---|---|---|---|" + (with_old ? "---|" : "") + "\n";
 }
 
@@ -174,6 +187,15 @@ void row(const std::string &what, const std::string &beside, const Runs &r, size
     std::printf("%s\n", line.c_str());
     std::fflush(stdout);
     page += line + "\n";
+    const bool rivals = beside == "plain Rust" || beside.rfind("`cv::", 0) == 0;
+    if (rivals && them.best < us.best) slower += "| " + titled + " | " + what + " | " + beside + " | " + number(them.best / us.best) + " |\n";
+}
+
+// The best time of one call, or of each of so many.
+void absolutely(const std::string &what, const Runs &r, size_t ours, double calls = 1) {
+    const double seconds = r.times[ours].best / calls;
+    const bool small = seconds < 1e-5;
+    absolute += "| " + what + " | " + number(seconds * (small ? 1e9 : 1e3)) + (small ? " ns" : " ms") + " |\n";
 }
 
 std::string square(int32_t half) { return std::to_string(2 * half + 1) + " × " + std::to_string(2 * half + 1); }
@@ -227,6 +249,7 @@ void tables() {
 #endif
     row("`ls_build`", "plain Rust", r, build, plain);
     row("`ls_build`", "the copy", r, build, copy);
+    absolutely("`ls_build`: freeze the picture", r, build);
 }
 
 void rectangles(uint32_t plane, const std::string &title, const std::string &text) {
@@ -280,6 +303,7 @@ void rectangles(uint32_t plane, const std::string &title, const std::string &tex
 #endif
         row(name + ", one call", "plain Rust", r, one, plain);
         row(name + ", one call", "the copy", r, one, copy);
+        if (!squares && (half == 1 || half == 127)) absolutely("`ls_rows`: all rows by one call, rectangle " + name, r, one);
     }
 }
 
@@ -324,6 +348,8 @@ void slanted() {
         row(name + ", calls of 4 rows", "plain Rust", r, fours, plain);
         row(name, "rectangle 3 × 3", r, one, small);
         row(name, "rectangle as high and as wide", r, one, around);
+        if (h == 2 || h == 127) absolutely("`ls_rows`: all rows by one call, " + name, r, one);
+        if (h == 127) absolutely("`ls_rows`: all rows by calls of 4, " + name, r, fours);
     }
 }
 
@@ -353,6 +379,24 @@ void smoothing() {
 #endif
         row(square(half), "plain Rust", r, ours, plain);
         row(square(half), "the copy", r, ours, copy);
+        if (half == 7) absolutely("`ls_smooth`: smooth the picture, 15 × 15", r, ours);
+    }
+}
+
+void searching() {
+    section("The steady search", "`ls_steady` over one picture that has no steady cell, so that all of it is searched.");
+    for (int32_t half : HALVES) {
+        const Window w = {LS_RECTANGLE, half, half};
+        library_steady(NOW, w);
+        if (plain_steady(ROWS, COLUMNS, picture.data(), unsigned_of(half), unsigned_of(half)) != CELLS) fail("plain Rust found a steady cell");
+        static size_t found;
+        Runs r;
+        const size_t ours = r.ours([=](const Library &l) { library_steady(l, w); });
+        const size_t plain = r.other([=] { found = plain_steady(ROWS, COLUMNS, picture.data(), unsigned_of(half), unsigned_of(half)); });
+        r.measure(40);
+        if (found != CELLS) fail("plain Rust found a steady cell");
+        row(square(half), "plain Rust", r, ours, plain);
+        if (half == 1) absolutely("`ls_steady`: search the picture, 3 × 3", r, ours);
     }
 }
 
@@ -395,47 +439,97 @@ void single_cells() {
         const std::string name = w.shape == LS_RECTANGLE ? square(w.first) : w.shape == LS_DIAMOND ? "diamond " + std::to_string(w.first) : "hexagon " + std::to_string(w.first) + ", " + std::to_string(w.second);
         row("`ls_direct_sum`, " + name, "plain Rust", r, directly, plainly);
         row("`ls_read`, " + name, "plain Rust", r, by_table, plainly_by_table);
+        if (w.first == 7 && w.shape == LS_RECTANGLE) {
+            absolutely("`ls_direct_sum`: one cell, 15 × 15", r, directly, 1000);
+            absolutely("`ls_read`: one cell from the table, 15 × 15", r, by_table, 1000);
+        }
     }
+}
+
+// The statistics of the six sums of 1,000 windows of 15 x 15; they have no rival here.
+void statistics() {
+    static std::vector<int64_t> z;
+    for (size_t k = 0; k < 1000; k++)
+        for (uint32_t plane = LS_PLANE_ONE; plane <= LS_PLANE_PRODUCT; plane++) {
+            int64_t s = 0;
+            granted(ls_direct_sum(ROWS, COLUMNS, picture.data(), CELLS, picture.data(), CELLS, LS_RECTANGLE, 7, 7, 3, 5, plane, k * 7919 % (ROWS - 3), k * 104729 % (COLUMNS - 5), &s), "ls_direct_sum");
+            z.push_back(s);
+        }
+    static int64_t total;
+    const auto each = [](decltype(&ls_mean) f) {
+        return [f] {
+            for (size_t k = 0; k < z.size(); k += 6) {
+                int64_t x = 0;
+                granted(f(z[k], z[k + 1], z[k + 2], z[k + 3], z[k + 4], z[k + 5], &x), "a statistic");
+                total += x;
+            }
+        };
+    };
+    Runs r;
+    const size_t mean = r.other(each(ls_mean)), deviation = r.other(each(ls_deviation)), coefficient = r.other(each(ls_coefficient));
+    r.measure(200);
+    absolutely("`ls_mean` of six sums", r, mean, 1000);
+    absolutely("`ls_deviation` of six sums", r, deviation, 1000);
+    absolutely("`ls_coefficient` of six sums", r, coefficient, 1000);
 }
 
 // ---- the plot: time of a whole picture by one call, over the time to copy its sums
 
 std::string plot() {
     struct Line {
-        std::string name, colour;
+        std::string name, colour, dashes;
         std::vector<double> values;
     };
-    std::vector<Line> lines = {{"rectangle (a, a)", "#1f5fa8", {}}, {"diamond r", "#b3402a", {}}, {"hexagon (k, k)", "#3f7f3f", {}}};
+    std::vector<Line> lines = {{"rectangle", "#1f5fa8", "", {}}, {"diamond", "#b3402a", "", {}}, {"hexagon", "#3f7f3f", "", {}}, {"plain Rust, rectangle", "#1f5fa8", "2 3", {}}, {"plain Rust, diamond", "#b3402a", "2 3", {}}};
+#ifdef WITH_OPENCV
+    lines.push_back({"cv::boxFilter, rectangle", "#1f5fa8", "8 4", {}});
+    lines.push_back({"cv::filter2D, diamond", "#b3402a", "8 4", {}});
+#endif
     const std::vector<int32_t> widths = {2, 4, 8, 16, 32, 64, 126};
     for (int32_t half : widths) {
         const Window windows[] = {{LS_RECTANGLE, half, half}, {LS_DIAMOND, half, 0}, {LS_HEXAGON, half / 2, half / 2}};
         std::vector<std::function<void()>> runs = {copy_sums};
         for (const Window w : windows) runs.push_back([=] { library_rows(NOW, w, LS_PLANE_F, ROWS, sums); });
+        const size_t n = unsigned_of(half);
+        runs.push_back([=] { plain_rectangle(ROWS, COLUMNS, picture.data(), n, n, false, work.data(), rival.data()); });
+        runs.push_back([=] { plain_slanted(ROWS, COLUMNS, picture.data(), 0, n, work.data(), rival.data()); });
+#ifdef WITH_OPENCV
+        static cv::Mat box, filtered;
+        const cv::Mat kernel = kernel_of(windows[1], CV_64F);
+        runs.push_back([=] { cv::boxFilter(levels(), box, CV_64F, cv::Size(2 * half + 1, 2 * half + 1), cv::Point(-1, -1), false, cv::BORDER_CONSTANT); });
+        runs.push_back([=] { cv::filter2D(levels(), filtered, CV_64F, kernel, cv::Point(-1, -1), 0, cv::BORDER_CONSTANT); });
+#endif
         const auto t = in_turn(half > 40 ? 12 : 25, runs);
-        for (size_t k = 0; k < 3; k++) lines[k].values.push_back(t[k + 1].best / t[0].best);
+        for (size_t k = 0; k < lines.size(); k++) lines[k].values.push_back(t[k + 1].best / t[0].best);
     }
-    double most = 0;
+    double most = 10;
     for (const auto &l : lines) most = std::max(most, *std::max_element(l.values.begin(), l.values.end()));
-    const double top = std::ceil(std::log10(most)), left = 70, right = 560, above = 30, below = 330;
+    const double decades = std::ceil(std::log10(most)), left = 80, right = 560, above = 60, below = 380;
     const auto place_x = [&](size_t k) { return left + (right - left) * static_cast<double>(k) / static_cast<double>(widths.size() - 1); };
-    const auto place_y = [&](double v) { return below - (below - above) * std::log10(std::max(v, 1.0)) / top; };
-    const auto text = [](double x, double y, const std::string &anchor, const std::string &t) {
-        return "<text x=\"" + number(x) + "\" y=\"" + number(y) + "\" text-anchor=\"" + anchor + "\">" + t + "</text>\n";
+    const auto place_y = [&](double v) { return below - (below - above) * std::log10(std::max(v, 1.0)) / decades; };
+    const auto text = [](double x, double y, const std::string &anchor, const std::string &t, const std::string &more = "") {
+        return "<text x=\"" + number(x) + "\" y=\"" + number(y) + "\" text-anchor=\"" + anchor + "\"" + more + ">" + t + "</text>\n";
     };
-    std::string svg = "<svg xmlns=\"http://www.w3.org/2000/svg\" viewBox=\"0 0 720 400\" font-family=\"sans-serif\" font-size=\"13\">\n<rect width=\"720\" height=\"400\" fill=\"white\"/>\n";
-    for (double p = 0; p <= top; p++) {
-        const double y = place_y(std::pow(10, p));
-        svg += "<line x1=\"" + number(left) + "\" y1=\"" + number(y) + "\" x2=\"" + number(right) + "\" y2=\"" + number(y) + "\" stroke=\"#ccc\"/>\n" + text(left - 8, y + 4, "end", std::to_string(static_cast<long>(std::pow(10, p))));
-    }
+    const auto across = [&](double y, const std::string &colour) {
+        return "<line x1=\"" + number(left) + "\" y1=\"" + number(y) + "\" x2=\"" + number(right) + "\" y2=\"" + number(y) + "\" stroke=\"" + colour + "\"/>\n";
+    };
+    std::string svg = "<svg xmlns=\"http://www.w3.org/2000/svg\" viewBox=\"0 0 800 440\" font-family=\"sans-serif\" font-size=\"13\">\n<rect width=\"800\" height=\"440\" fill=\"white\"/>\n";
+    svg += text(left, 24, "start", "The window grows: 256 rows of 1,024 sums, plane 1", " font-size=\"16\"") + text(left, 44, "start", "time over that of a copy of the sums; logarithmic, a line for each 1, 2, 5", " fill=\"#666\"");
+    for (double p = 0; p <= decades; p++)
+        for (double step : {1.0, 2.0, 5.0}) {
+            const double v = step * std::pow(10, p);
+            if (v > std::pow(10, decades)) continue;
+            svg += across(place_y(v), step == 1 ? "#999" : "#ddd") + text(left - 8, place_y(v) + 4, "end", std::to_string(static_cast<long>(v)), step == 1 ? "" : " font-size=\"10\" fill=\"#666\"");
+        }
     for (size_t k = 0; k < widths.size(); k++) svg += text(place_x(k), below + 20, "middle", std::to_string(widths[k]));
-    svg += text((left + right) / 2, below + 42, "middle", "half width of the window");
-    svg += "<text x=\"18\" y=\"" + number((above + below) / 2) + "\" text-anchor=\"middle\" transform=\"rotate(-90 18 " + number((above + below) / 2) + ")\">time over that of a copy</text>\n";
+    svg += text((left + right) / 2, below + 44, "middle", "half width of the window (of a hexagon: k + h)");
     for (size_t l = 0; l < lines.size(); l++) {
+        const std::string stroke = " stroke=\"" + lines[l].colour + "\" stroke-width=\"2\"" + (lines[l].dashes.empty() ? "" : " stroke-dasharray=\"" + lines[l].dashes + "\"");
         std::string points;
         for (size_t k = 0; k < widths.size(); k++) points += number(place_x(k)) + "," + number(place_y(lines[l].values[k])) + " ";
-        svg += "<polyline fill=\"none\" stroke=\"" + lines[l].colour + "\" stroke-width=\"2\" points=\"" + points + "\"/>\n";
+        svg += "<polyline fill=\"none\"" + stroke + " points=\"" + points + "\"/>\n";
         const double y = above + 20 * static_cast<double>(l) + 10;
-        svg += "<line x1=\"575\" y1=\"" + number(y) + "\" x2=\"595\" y2=\"" + number(y) + "\" stroke=\"" + lines[l].colour + "\" stroke-width=\"2\"/>\n" + text(600, y + 4, "start", lines[l].name);
+        svg += "<line x1=\"580\" y1=\"" + number(y) + "\" x2=\"612\" y2=\"" + number(y) + "\"" + stroke + "/>\n" + text(620, y + 4, "start", lines[l].name);
     }
     return svg + "</svg>\n";
 }
@@ -460,25 +554,28 @@ int main(int argc, char **argv) {
         seed ^= seed << 13, seed ^= seed >> 7, seed ^= seed << 17;
         level = static_cast<int16_t>(seed >> 32);
     }
-    page = "# Benchmarks\n\nWritten by `bench/run`. Every figure is a ratio of times from one run: how many times as fast this library is as what stands beside it. Above 1 it is the faster one. A picture of 256 × 1,024 random levels, one "
-           "thread, this library's checks included; its functions begin at multiples of 64 bytes, so that their place in the program decides nothing. Those compared take turns in every round, each running twice, and its second time counts; the third column is the ratio of their best times, the fourth that of their middle ones" +
-           std::string(with_old ? "; the last one is how many times as fast it is as an earlier build of itself, by their best times" : "") +
-           ". Their results are compared for equality first" + (with_old ? ", but for those of the earlier build, which a change may have meant to alter" : "") + ".\n\n- CPU: " +
-           fact("BENCH_CPU") + "\n- this library: " + fact("BENCH_KIT") + "\n- C++: " + fact("BENCH_CXX") + ", -O3\n- Rust: " + fact("BENCH_RUST") + ", -C opt-level=3\n- OpenCV: ";
 #ifdef WITH_OPENCV
     cv::setNumThreads(1);
-    page += CV_VERSION "\n";
+    const std::string opencv = CV_VERSION;
 #else
-    page += "not found, so left out\n";
+    const std::string opencv = "not found, so left out";
     std::printf("OpenCV was not found: what would stand beside it is left out\n");
 #endif
-    page += "\n![Time against the window's size](benchmarks.svg)\n\nThe plot has the time of one call of 256 rows, plane 1, over the time to copy its sums.\n";
     tables();
-    rectangles(LS_PLANE_F, "Row sums over rectangles", "Plane 1. `cv::boxFilter` is unnormalised, with zeros around the picture. The copy is that of the sums' bytes.");
+    rectangles(LS_PLANE_F, "Row sums over rectangles", "Plane 1; `cv::boxFilter` is unnormalised, with zeros around the picture, and the copy is that of the sums' bytes.");
     rectangles(LS_PLANE_F_SQUARED, "Sums of squares over rectangles", "Plane 3, one call.");
     slanted();
     smoothing();
+    searching();
     single_cells();
+    statistics();
+    page = "# Benchmarks\n\nWritten by `bench/run`, from one run, one thread, on a picture of 256 × 1,024 random levels; this library's checks are included.\n\n- CPU: " + fact("BENCH_CPU") + "\n- this library: " + fact("BENCH_KIT") +
+           "\n- C++: " + fact("BENCH_CXX") + ", -O3\n- Rust: " + fact("BENCH_RUST") + ", -C opt-level=3\n- OpenCV: " + opencv +
+           "\n\n## How long it takes\n\nBest times on this machine; the ratios below say more about another one.\n\n| What | Time |\n|---|---|\n" + absolute +
+           "\n## The window grows\n\n![Time against the window's size](benchmarks.svg)\n\n## Where it is the slower one\n\nEvery line below on which OpenCV or plain Rust takes less time, with the ratio of best times; what the reasons are stands at the end.\n\n| Section | What | Beside | Best times |\n|---|---|---|---|\n" + slower +
+           "\n## How to read the ratios\n\nA ratio says how many times as fast this library is as what stands beside it; above 1 it is the faster one. The two programs alternate: in every round each runs twice, and the second time counts. Results are compared for equality before anything is timed" +
+           (with_old ? ", but for those of the earlier build, which a change may have meant to alter" : "") + ". Functions begin at multiples of 64 bytes, so that their place in the program decides nothing." +
+           (with_old ? " The last column is how many times as fast it is as an earlier build of itself, by best times." : "") + "\n" + page;
     write(argv[2], plot());
     write(argv[1], page);
 }

@@ -13,6 +13,7 @@ int32_t old_ls_build(size_t rows, size_t columns, const int16_t *f, size_t f_len
 int32_t old_ls_read(size_t rows, size_t columns, const int64_t *table, size_t table_length, uint32_t shape, int32_t first, int32_t second, size_t row, size_t column, int64_t *sum);
 int32_t old_ls_rows(size_t *position, size_t rows, size_t columns, const int16_t *f, size_t f_length, const int16_t *g, size_t g_length, uint32_t shape, int32_t first, int32_t second, int32_t down, int32_t right, uint32_t plane, size_t request,
                     int64_t *work, size_t work_length, int64_t *out, size_t out_length, size_t *granted);
+int32_t old_ls_steady(size_t rows, size_t columns, const int16_t *f, size_t f_length, const int16_t *g, size_t g_length, uint32_t shape, int32_t first, int32_t second, int32_t down, int32_t right, size_t *row, size_t *column);
 int32_t old_ls_smooth(size_t rows, size_t columns, const int16_t *f, size_t f_length, uint32_t shape, int32_t first, int32_t second, int16_t *out, size_t out_length);
 }
 

@@ -176,3 +176,37 @@ pub unsafe extern "C" fn plain_smooth(rows: usize, columns: usize, f: *const i16
         }
     });
 }
+
+/// The place of the first cell, row by row, over whose rectangle all levels are equal, and rows · columns where there is none. A window's N needs no sum: it is the
+/// number of rows times that of columns which lie in the picture.
+#[no_mangle]
+pub unsafe extern "C" fn plain_steady(rows: usize, columns: usize, f: *const i16, a: usize, b: usize) -> usize {
+    let f = from_raw_parts(f, rows * columns);
+    let (mut sums, mut squares) = (vec![0i64; columns], vec![0i64; columns]);
+    let (mut s, mut q) = (vec![0i64; columns], vec![0i64; columns]);
+    let add = |sums: &mut [i64], squares: &mut [i64], row: usize, sign: i64| {
+        for ((s, q), &x) in sums.iter_mut().zip(squares.iter_mut()).zip(&f[row * columns..(row + 1) * columns]) {
+            *s += sign * x as i64;
+            *q += sign * x as i64 * x as i64;
+        }
+    };
+    (0..a.min(rows)).for_each(|i| add(&mut sums, &mut squares, i, 1));
+    for i in 0..rows {
+        if i + a < rows {
+            add(&mut sums, &mut squares, i + a, 1);
+        }
+        if i > a {
+            add(&mut sums, &mut squares, i - a - 1, -1);
+        }
+        slide(&sums, b, &mut s);
+        slide(&squares, b, &mut q);
+        let height = (i + a + 1).min(rows) - i.saturating_sub(a);
+        for j in 0..columns {
+            let n = (height * ((j + b + 1).min(columns) - j.saturating_sub(b))) as i64;
+            if n * q[j] == s[j] * s[j] {
+                return i * columns + j;
+            }
+        }
+    }
+    rows * columns
+}

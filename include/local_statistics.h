@@ -51,8 +51,22 @@
 extern "C" {
 #endif
 
+/* ---- Version -------------------------------------------------------------------------------- */
+
+/*
+ * Semantic versioning: a major version where an answer changes or a call no longer compiles, a
+ * minor one where something is new. ls_version gives the library's, as major * 1,000,000 +
+ * minor * 1,000 + patch; a program may hold it against the header that it was compiled with.
+ */
+#define LS_VERSION_MAJOR 1
+#define LS_VERSION_MINOR 0
+#define LS_VERSION_PATCH 0
+
+uint32_t ls_version(void);
+
 /* ---- Statuses ------------------------------------------------------------------------------- */
 
+/* No call gives LS_REFUSED_TEXT: it is the number in the line `refused 10` that ls_panel writes. */
 #define LS_OK 0               /* answered */
 #define LS_REFUSED_SIZE 1     /* rows or columns beyond limits */
 #define LS_REFUSED_PICTURE 2  /* a picture's length is not rows times columns */
@@ -63,7 +77,7 @@ extern "C" {
 #define LS_REFUSED_REQUEST 7  /* position above rows, or request above rows minus position */
 #define LS_REFUSED_AREA 8     /* table, work or output area of another length */
 #define LS_REFUSED_SUMS 9     /* sums impossible */
-#define LS_REFUSED_TEXT 10    /* panel's text: no status, but the number in the line `refused 10` */
+#define LS_REFUSED_TEXT 10    /* a number of panel's text is malformed, missing or too many */
 #define LS_EMPTY (-1)         /* no cell counts: N is 0 */
 #define LS_FLAT (-2)          /* no coefficient: all levels of f, or all of g, are equal */
 #define LS_NOWHERE (-3)       /* no cell is steady */
@@ -83,7 +97,9 @@ extern "C" {
 
 /*
  * Two pictures f and g of one size stand under a shift: down from -255 to 255 rows, right from
- * -1,023 to 1,023 columns. A cell (m, n) counts when it and (m+down, n+right) are both inside the
+ * -1,023 to 1,023 columns. At the cell (m, n) of f, g is read at (m+down, n+right). So if g shows
+ * what f shows, drawn 3 rows lower and 5 columns further to the right, the two match under the
+ * shift down = 3, right = 5. A cell (m, n) counts when it and (m+down, n+right) are both inside the
  * picture. A plane has a value at each cell that counts, and is 0 at every other. One picture
  * alone is the case g = f with shift (0, 0).
  */
@@ -156,6 +172,13 @@ int32_t ls_read(size_t rows, size_t columns, const int64_t *table, size_t table_
  * At position 0 the work area is not read. Afterwards it holds, for a rectangle, the sums of the
  * columns over the window's rows, and for the others the last row of window sums; other contents
  * are taken by the same rule from row to row, with sums that wrap at 64 bits.
+ * What a row costs. Over a rectangle every row costs the same, however large the window and the
+ * request. Over a diamond or hexagon a call of two rows or more first goes through as many rows as
+ * the window is high, and from then on its rows cost the same whatever the window; a call of one
+ * row costs as many row steps as the window is high. So ask for many rows at once where the window
+ * is large: 256 rows over a diamond of 127 take about 10 times as long by calls of 4 rows as by
+ * one call.
+ *
  * f and g: rows times columns levels each. work: columns numbers. out: request times columns
  * numbers, all of them written. A request of 0 is granted and changes nothing but *granted.
  * Refusals: LS_REFUSED_SIZE, _PICTURE, _WINDOW, _SHIFT, _PLANE, _REQUEST, _AREA.
@@ -244,6 +267,45 @@ int32_t ls_steady(size_t rows, size_t columns, const int16_t *f, size_t f_length
  */
 int32_t ls_panel(const uint8_t *text, size_t text_length, uint8_t *out, size_t out_length,
                  size_t *written);
+
+/* ---- Words for a status --------------------------------------------------------------------- */
+
+/* What a status says, for messages; it is no part of the archive. */
+static inline const char *ls_status_text(int32_t status)
+{
+    switch (status) {
+    case LS_OK:
+        return "answered";
+    case LS_REFUSED_SIZE:
+        return "rows or columns beyond limits";
+    case LS_REFUSED_PICTURE:
+        return "a picture's length is not rows times columns";
+    case LS_REFUSED_WINDOW:
+        return "shape not 1 to 3, or window numbers other than its shape allows";
+    case LS_REFUSED_SHIFT:
+        return "shift beyond limits";
+    case LS_REFUSED_PLANE:
+        return "plane above 5";
+    case LS_REFUSED_CELL:
+        return "cell outside the picture";
+    case LS_REFUSED_REQUEST:
+        return "position above rows, or request above rows minus position";
+    case LS_REFUSED_AREA:
+        return "table, work or output area of another length";
+    case LS_REFUSED_SUMS:
+        return "sums impossible";
+    case LS_REFUSED_TEXT:
+        return "a number of panel's text is malformed, missing or too many";
+    case LS_EMPTY:
+        return "no cell counts: N is 0";
+    case LS_FLAT:
+        return "no coefficient: all levels of f, or all of g, are equal";
+    case LS_NOWHERE:
+        return "no cell is steady";
+    default:
+        return "no status of this library";
+    }
+}
 
 #ifdef __cplusplus
 }

@@ -1,5 +1,5 @@
 #!/usr/bin/env python3
-"""Holds the C header to the library's source and to the Rust binding: every declaration and every constant.
+"""Holds the C header to the library's source and to the Rust binding: every declaration, every constant, and the version, which the changelog has too.
 
 Then it damages copies of them in memory, and fails where a damaged copy passes.
 """
@@ -20,6 +20,9 @@ LINES = "crates/spec_picture/src/lib.rt"
 SHAPES = "crates/spec_picture/src/shape.rt"
 PLANES = "crates/spec_picture/src/plane.rt"
 PANEL = "crates/spec_panel/specs/Panel.antt"
+VERSION = "crates/spec_c/specs/Version.antt"
+CARGO = "bindings/rust/Cargo.toml"
+CHANGELOG = "CHANGELOG.md"
 
 # What a number of Rattle, or of Rust, is in C.
 C_TYPES = {
@@ -31,6 +34,13 @@ C_TYPES = {
     "i64": "int64_t",
     "f32": "float",
 }
+
+# Where the version stands beside the header, the newest first.
+VERSIONS = [
+    (VERSION, r"(?m)^version = version_number (\d+) (\d+) (\d+)$"),
+    (CARGO, r'(?m)^version = "(\d+)\.(\d+)\.(\d+)"$'),
+    (CHANGELOG, r"(?m)^## (\d+)\.(\d+)\.(\d+)\b"),
+]
 
 # Where each constant of the header stands as a literal, `@` for its digits; a run of blanks matches any other.
 CONSTANTS = {
@@ -105,12 +115,13 @@ def c_type(name):
 def in_header(text):
     text = re.sub(r"/\*.*?\*/", " ", text, flags=re.S)
     text = re.sub(r"^\s*#.*$", "", text, flags=re.M)
+    text = re.sub(r"^static inline [^{]*\{.*?^\}$", "", text, flags=re.M | re.S)
     (body,) = matched(r'\s*extern "C" \{(.*)\}\s*', text, "the header")
     functions = {}
     for declaration in parts(body, ";"):
         returned, name, parameters = matched(r"(\w+) (\w+)\((.*)\)", declaration, "a declaration of the header")
         functions[name] = [returned]
-        for parameter in parts(parameters, ","):
+        for parameter in parts("" if parameters == "void" else parameters, ","):
             constant, number, star, of = matched(r"(const )?(\w+) (\*?)(\w+)", parameter, f"a parameter of {name}")
             functions[name].append(((constant or "") + number + star, of))
     return functions
@@ -173,7 +184,7 @@ def literal(text, form):
 
 
 def constants_unlike(header, texts):
-    given = {name: int(value) for name, value in re.findall(r"^#define (LS_\w+) \(?(-?\d+)\)?", header, re.M)}
+    given = {name: int(value) for name, value in re.findall(r"^#define (LS_(?!VERSION_)\w+) \(?(-?\d+)\)?", header, re.M)}
     for name in sorted(given.keys() ^ CONSTANTS.keys()):
         yield f"{name} is not both in the header and in this test"
     for name in sorted(given.keys() & CONSTANTS.keys()):
@@ -181,6 +192,23 @@ def constants_unlike(header, texts):
             value = literal(texts[where], form)
             if value != given[name]:
                 yield f"{name} is {given[name]} in the header and {value} in {where}"
+
+
+def versions_unlike(header, texts):
+    parts_of = tuple("".join(re.findall(rf"^#define LS_VERSION_{part} (\d+)$", header, re.M)) for part in ("MAJOR", "MINOR", "PATCH"))
+    for where, pattern in VERSIONS:
+        there = re.search(pattern, texts[where])
+        if not there or there.groups() != parts_of:
+            yield f"the version is {'.'.join(parts_of)} in the header and {'.'.join(there.groups()) if there else 'nowhere'} in {where}"
+
+
+def words_unlike(header):
+    """The words of `ls_status_text` are those behind the statuses."""
+    defined = {name: words for name, words in re.findall(r"^#define (LS_(?:OK|REFUSED_\w+|EMPTY|FLAT|NOWHERE)) \S+ +/\* (.*) \*/$", header, re.M)}
+    said = dict(re.findall(r'^    case (LS_\w+):\n        return "(.*)";$', header, re.M))
+    for name in sorted(defined.keys() | said.keys()):
+        if defined.get(name) != said.get(name):
+            yield f"{name} is '{defined.get(name)}' where it is defined and '{said.get(name)}' in ls_status_text"
 
 
 # ---- The comparison, and damaged copies
@@ -193,6 +221,8 @@ def all_unlike(texts):
             *unlike(header, in_source(texts[SOURCE]), "the source"),
             *unlike(header, in_binding(texts[BINDING]), "the binding"),
             *constants_unlike(texts[HEADER], texts),
+            *versions_unlike(texts[HEADER], texts),
+            *words_unlike(texts[HEADER]),
         ]
     except Unreadable as reason:
         return [str(reason)]
@@ -215,6 +245,12 @@ DAMAGES = [
     ("another status", HEADER, r"LS_FLAT \(-2\)", "LS_FLAT (-4)"),
     ("another limit", HEADER, r"LS_MAX_ROWS 256", "LS_MAX_ROWS 255"),
     ("a constant missing", HEADER, r"#define LS_GRAINY 2", ""),
+    ("other words for a status", HEADER, r'return "plane above 5"', 'return "plane above 6"'),
+    ("a status without words", HEADER, r"    case LS_FLAT:\n.*\n", ""),
+    ("another version", HEADER, r"LS_VERSION_MINOR 0", "LS_VERSION_MINOR 1"),
+    ("another version", VERSION, r"version_number 1 0 0", "version_number 1 0 1"),
+    ("another version", CARGO, r'version = "1', 'version = "2'),
+    ("another version", CHANGELOG, r"## 1", "## 2"),
     ("a function missing", SOURCE, r'#\[unsafe\(no_mangle\)\]\s*pub extern "C" fn ls_steady', "fn ls_steady"),
     ("a function not exported", SOURCE, r"#\[unsafe\(no_mangle\)\]\s*", ""),
     ("another width", SOURCE, r"table: &\[i64\]", "table: &[i32]"),
@@ -230,7 +266,7 @@ DAMAGES = [
 
 
 def main():
-    paths = {HEADER, SOURCE, BINDING, *(where for places in CONSTANTS.values() for where, _ in places)}
+    paths = {HEADER, SOURCE, BINDING, *(where for where, _ in VERSIONS), *(where for places in CONSTANTS.values() for where, _ in places)}
     texts = {path: "\n".join(file.read_text(encoding="utf-8") for file in sorted(ROOT.glob(path))) for path in paths}
     found = all_unlike(texts)
     for what, where, pattern, instead in DAMAGES:

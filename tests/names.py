@@ -15,6 +15,7 @@ from pathlib import Path
 ROOT = Path(__file__).resolve().parent.parent
 CRATES = "crates.txt"
 README = "README.md"
+CHANGELOG = "CHANGELOG.md"
 ARCHITECTURE = "docs/ARCHITECTURE.md"
 TRACE = "docs/TRACE.md"
 # They name what stood before, and are not read.
@@ -26,7 +27,7 @@ COMMENTS = {"rt": "//", "antt": "--", "edit": "#"}
 # What stands before `::` in a document and is no crate of this repository: OpenCV, the kit's crates, the language.
 FOREIGN = {"cv", "io", "libc", "std"}
 # What has a dash or an underscore and is declared nowhere in this repository: its library, a function of the kit, the kit's lines.
-NAMES_BESIDE = ("local_statistics", "read_full", "rattle-kit-")
+NAMES_BESIDE = ("local_statistics", "read_full", "rattle-kit-", "ls_status_text")
 
 
 def kind(path):
@@ -35,7 +36,7 @@ def kind(path):
 
 def tree():
     """The texts of the repository by their paths, read where a name may stand in them."""
-    texts = {path: (ROOT / path).read_text(encoding="utf-8") for path in (CRATES, README)}
+    texts = {path: (ROOT / path).read_text(encoding="utf-8") for path in (CRATES, README, CHANGELOG)}
     for folder in FOLDERS:
         for place, below, files in os.walk(ROOT / folder):
             below[:] = [name for name in below if name not in ("out", "target") and not name.startswith(".")]
@@ -46,7 +47,7 @@ def tree():
 
 
 def documents(texts):
-    return [path for path in texts if path == README or path.startswith("docs/") and kind(path) == "md"]
+    return [path for path in texts if path in (README, CHANGELOG) or path.startswith("docs/") and kind(path) == "md"]
 
 
 # ---- What one text has
@@ -160,7 +161,7 @@ def wrong_paths(texts):
             there.add(path)
     for where, text in texts.items():
         for path in paths_named(text, COMMENTS.get(kind(where), "")):
-            if path not in there and not ("*" in path and any(fnmatchcase(each, path) for each in there)):
+            if path not in there and "/out/" not in path and not ("*" in path and any(fnmatchcase(each, path) for each in there)):
                 yield f"{where}: there is no {path}"
     for where in documents(texts):
         for link in links(texts[where]):

@@ -559,6 +559,26 @@ static void test_panel(void)
     CHECK(LS_REFUSED_AREA, panel("", 0));
 }
 
+/* ---- The version, and words ----------------------------------------------------------------- */
+
+static void test_version(void)
+{
+    CHECK(LS_VERSION_MAJOR * 1000000 + LS_VERSION_MINOR * 1000 + LS_VERSION_PATCH, (int32_t)ls_version());
+}
+
+static void test_words(void)
+{
+    /* each status has words of its own, and no other number has */
+    for (int32_t status = -5; status <= 12; status++) {
+        const char *words = ls_status_text(status);
+        int known = status >= LS_NOWHERE && status <= LS_REFUSED_TEXT;
+        CHECK(known, strcmp(words, ls_status_text(99)) != 0);
+        for (int32_t other = LS_NOWHERE; known && other < status; other++)
+            CHECK(1, strcmp(words, ls_status_text(other)) != 0);
+    }
+    CHECK(0, strcmp(ls_status_text(LS_REFUSED_PLANE), "plane above 5"));
+}
+
 int main(void)
 {
     forget();
@@ -571,6 +591,8 @@ int main(void)
     test_smoothing();
     test_steady();
     test_panel();
+    test_version();
+    test_words();
     printf("%d calls, %d failures\n", calls, failures);
     return failures != 0;
 }

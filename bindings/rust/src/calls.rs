@@ -31,6 +31,7 @@ extern "C" {
     fn ls_smooth(rows: usize, columns: usize, f: *const i16, f_length: usize, shape: u32, first: i32, second: i32, out: *mut i16, out_length: usize) -> i32;
     fn ls_steady(rows: usize, columns: usize, f: *const i16, f_length: usize, g: *const i16, g_length: usize, shape: u32, first: i32, second: i32, down: i32, right: i32, row: *mut usize, column: *mut usize) -> i32;
     fn ls_panel(text: *const u8, text_length: usize, out: *mut u8, out_length: usize, written: *mut usize) -> i32;
+    fn ls_version() -> u32;
 }
 
 /// What a status says of a call that answers or refuses.
@@ -215,4 +216,9 @@ mod tests {
     fn an_unknown_status_is_told() {
         let _ = answered(-4);
     }
+}
+
+pub fn version() -> u32 {
+    // SAFETY: it takes nothing and reads nothing.
+    unsafe { ls_version() }
 }

@@ -38,6 +38,15 @@ mod statistics;
 mod sums;
 mod types;
 
+/// The version of the linked library: major · 1,000,000 + minor · 1,000 + patch.
+///
+/// ```
+/// assert_eq!(local_statistics::version() / 1_000_000, 1);
+/// ```
+pub fn version() -> u32 {
+    calls::version()
+}
+
 pub use drawings::{panel, smooth, steady};
 pub use refusal::Refusal;
 pub use session::Session;

@@ -4,7 +4,7 @@ use core::error::Error;
 use core::fmt::{Display, Formatter, Result};
 
 /// Why a call was turned down: the conditions of document 01, with its numbers. They are tried in the order of their numbers, and the
-/// first that holds comes back.
+/// first that holds comes back. A later version may have more of them, so a `match` needs an arm for the others.
 ///
 /// ```
 /// use local_statistics::{direct_sum, Cell, Pictures, Plane, Refusal, Size, Window};
@@ -16,6 +16,7 @@ use core::fmt::{Display, Formatter, Result};
 /// assert_eq!(refusal.to_string(), "refused 3: shape not 1 to 3, or window numbers other than its shape allows");
 /// ```
 #[derive(Clone, Copy, Debug, PartialEq, Eq, Hash)]
+#[non_exhaustive]
 pub enum Refusal {
     /// Rows or columns beyond limits.
     Size = 1,

@@ -121,3 +121,11 @@ fn limits() {
     let cells = |n| Sums { n, s: 0, t: 0, a: 0, b: 0, p: 0 }.mean();
     assert_eq!((cells(MAX_CELLS), cells(MAX_CELLS + 1)), (Ok(Some(0)), Err(Refusal::Sums)));
 }
+
+/// The crate and the library that it is linked to are of one version.
+#[test]
+fn version() {
+    let part = |text: &str| text.parse::<u32>().unwrap();
+    let crates = [env!("CARGO_PKG_VERSION_MAJOR"), env!("CARGO_PKG_VERSION_MINOR"), env!("CARGO_PKG_VERSION_PATCH")].map(part);
+    assert_eq!(local_statistics::version(), crates[0] * 1_000_000 + crates[1] * 1_000 + crates[2]);
+}

@@ -20,3 +20,4 @@ pub mod correlation; // correlation.rt: the coefficient
 pub mod smooth; // smooth.rt: smoothing
 pub mod steady; // steady.rt: the steady search
 pub mod texts; // texts.rt: what panel prints
+pub mod version; // version.rt: the version of the library
