@@ -229,7 +229,7 @@ cv::Mat kernel_of(Window w, int type) {
 #endif
 
 void tables() {
-    section("The table", "Building, plane 1, no shift. `cv::integral` goes from CV_16S to CV_64F and writes a row and a column more. The copy is that of the table's bytes.");
+    section("The table", "Building, plane 1, no shift; `cv::integral` goes from CV_16S to CV_64F and writes a row and a column more, and the copy is that of the table's bytes.");
     library_build(NOW, table);
     plain_build(ROWS, COLUMNS, picture.data(), rival.data());
     equal("table", table, rival);
@@ -309,8 +309,7 @@ void rectangles(uint32_t plane, const std::string &title, const std::string &tex
 
 void slanted() {
     section("Diamonds and hexagons",
-            "Row sums, plane 1, one call of 256 rows. `cv::filter2D` has the shape as its kernel, to CV_64F from CV_16S and to CV_32F from CV_32F; large kernels go through a Fourier transform, and floats of 32 bits are not exact, so the "
-            "results agree within a millionth and a thousandth of the largest sum. Plain Rust adds and drops the edges' cells one by one.");
+            "Row sums, plane 1, one call of 256 rows; `cv::filter2D` has the shape as its kernel (large ones go through a Fourier transform, and agree within a millionth of the largest sum, 32-bit floats within a thousandth), and plain Rust adds and drops the edges' cells.");
     for (const Window w : {Window{LS_DIAMOND, 2, 0}, Window{LS_DIAMOND, 4, 0}, Window{LS_DIAMOND, 8, 0}, Window{LS_DIAMOND, 16, 0}, Window{LS_DIAMOND, 32, 0}, Window{LS_DIAMOND, 64, 0}, Window{LS_DIAMOND, 127, 0}, Window{LS_HEXAGON, 4, 4},
                           Window{LS_HEXAGON, 16, 16}, Window{LS_HEXAGON, 63, 64}}) {
         const bool diamond = w.shape == LS_DIAMOND;
@@ -401,7 +400,7 @@ void searching() {
 }
 
 void single_cells() {
-    section("Single cells", "How many direct sums and table readings a second, over those of plain Rust, which checks nothing. A round takes 1,000 cells all over the picture, the same for both.");
+    section("Single cells", "Direct sums and table readings at 1,000 cells all over the picture, beside plain Rust, which checks nothing.");
     library_build(NOW, table);
     for (const Window w : {Window{LS_RECTANGLE, 1, 1}, Window{LS_RECTANGLE, 7, 7}, Window{LS_RECTANGLE, 127, 127}, Window{LS_DIAMOND, 7, 0}, Window{LS_DIAMOND, 127, 0}, Window{LS_HEXAGON, 63, 64}}) {
         static int64_t total, other;

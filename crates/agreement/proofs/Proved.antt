@@ -1,7 +1,7 @@
 -- Demand 3, proved at the level of the definitions.
 -- Assumes nothing.
 use mathlib.Core.Path.{◌≡◌, refl, sym, ◌∙◌, ap, ap₂, subst}
-use Prim.Native.Nat.{ℕ, ◌+◌, ◌-◌, ◌*◌, ◌≤◌, ◌<◌}
+use Prim.Native.Nat.{ℕ, suc, ◌+◌, ◌-◌, ◌*◌, ◌≤◌, ◌<◌}
 use native.Mathlib.Omega.{arith}
 use mathlib.Core.Bool.{Bool, true, false, ◌||◌}
 use mathlib.Core.List.{List, [], ◌∷◌, ◌++◌}
@@ -9,10 +9,10 @@ use mathlib.Core.Option.{Option, none, some}
 use lib.Dec.{ltb}
 use lib.ListN.{length, get_or}
 use lib.IntN.{ℤ, pos}
-use Rattle.numbers.specs.Grid.{grid, rows_from}
-use Rattle.numbers.proofs.Grids.{length-rows, get_or-grid, rows_join}
-use Rattle.spec_picture.specs.Refusal.{Filling, answered, refusal, ◌when◌}
-use Rattle.spec_picture.specs.Window.{Shape, shape_of}
+use Rattle.numbers.specs.Grid.{tabulate, grid, rows_from}
+use Rattle.numbers.proofs.Grids.{length-tabulate, get_d_tabulate, length-rows, get_or-grid, rows_join}
+use Rattle.spec_picture.specs.Refusal.{Filling, answered, refusal, outcome, ◌when◌}
+use Rattle.spec_picture.specs.Window.{Shape, Slanted, rectangle, slanted, shape_of}
 use Rattle.spec_picture.specs.Size.{cells}
 use Rattle.spec_picture.specs.Picture.{Levels, Inputs, plane_at}
 use Rattle.spec_picture.specs.Conditions.{accepted, input_checks, check7, check8}
@@ -21,7 +21,8 @@ use Rattle.spec_picture.proofs.Refusals.{InLimits, in-limits, accepted-has, dire
 use Rattle.spec_picture.proofs.Planes.{plane-bound}
 use Rattle.spec_table.specs.Table.{build_call, read_call}
 use Rattle.spec_table.proofs.Reading.{build-fills, read-answers}
-use Rattle.spec_rows.specs.Rows.{RowOutcome, row_call, row_result, row_checks}
+use Rattle.spec_rows.specs.Rows.{RowOutcome, column_sum, work_value, row_call, row_result, row_checks}
+use Rattle.spec_rows.proofs.Calls.{row-answers}
 use Rattle.spec_rows.proofs.Steps.{Ready, strip-done}
 use Rattle.spec_statistics.specs.declared.Sums.{Sums}
 use Rattle.spec_statistics.specs.SixSums.{six_sums, impossible, unless9}
@@ -123,6 +124,10 @@ module _ (x : Inputs) (ok : accepted x) (hf : Levels x.source.f) (hg : Levels x.
     joined_direct = λ i j hi hj. direct i j hi hj;
     joined_call = λ i j hi hj. direct-answers x i j ok (omega (arith, g.within)) hj ∙ ap answered (sym (direct i j hi hj));
     joined_read = λ i j hi hj. reading i j (omega (arith, g.within)) hj ∙ ap answered (sym (direct i j hi hj));
+    work_length = λ i e. ap length (held i e) ∙ length-tabulate x.source.size.columns (work_value x.source.size P shape i);
+    work_rectangle = λ i j a b e hj is. number i j e hj ∙ ap (λ (t : Shape). work_value x.source.size P t i j) is ∙ of-rectangle i j a b;
+    work_slanted = λ i j o e hj is. number i j e hj ∙ ap (λ (t : Shape). work_value x.source.size P t i j) is ∙ of-slanted i j o is;
+    next_answer = λ c. row-answers x s.position c.request s.work c.output ∙ ap (λ (p : ℕ). outcome (refusal (row_checks x p c.request s.work c.output)) c.request) g.position_is;
     table_direct = λ i j hi hj. reading i j hi hj ∙ sym (direct-answers x i j ok hi hj);
     mean_answers = λ i j hi hj. answers (six_sums x i j) (unless_empty (six_sums x i j) (mean (six_sums x i j))) (never i j);
     variance_answers = λ i j hi hj. answers (six_sums x i j) (unless_empty (six_sums x i j) (variance (six_sums x i j))) (never i j);
@@ -134,6 +139,21 @@ module _ (x : Inputs) (ok : accepted x) (hf : Levels x.source.f) (hg : Levels x.
     where
       never : (i j : ℕ) → impossible (six_sums x i j) ≡ false
       never i j = sums-possible x hf hg (accepted-has x ok).window i j
+
+      -- the work area after row i
+      held : (i : ℕ) → s.granted ≡ suc i → s.work ≡ tabulate x.source.size.columns (work_value x.source.size P shape i)
+      held i e = subst (λ (n : ℕ). Ready x.source.size P lim (plane-bound x.source hf hg) shape n s.work) e g.ready
+
+      number : (i j : ℕ) → s.granted ≡ suc i → j < x.source.size.columns → get_or s.work j (pos 0) ≡ work_value x.source.size P shape i j
+      number i j e hj = ap (λ (l : List ℤ). get_or l j (pos 0)) (held i e) ∙ get_d_tabulate x.source.size.columns j (work_value x.source.size P shape i) (pos 0) hj
+
+      of-rectangle : (i j a b : ℕ) → work_value x.source.size P (rectangle a b) i j ≡ column_sum x.source.size P a i j
+      of-rectangle i j a b = unfold work_value in refl
+
+      of-slanted : (i j : ℕ) (o : Slanted) → shape ≡ slanted o → work_value x.source.size P (slanted o) i j ≡ direct_sum x i j
+      of-slanted i j o is =
+          let sums : work_value x.source.size P (slanted o) i j ≡ window_sum x.source.size (slanted o) P i j = unfold work_value in refl in
+          sums ∙ ap (λ (t : Shape). window_sum x.source.size t P i j) (sym is) ∙ sym (unfold direct_sum in refl)
 
       direct : (i j : ℕ) → i < s.granted → j < x.source.size.columns → get_or s.joined (i * x.source.size.columns + j) (pos 0) ≡ direct_sum x i j
       direct i j hi hj =

@@ -109,4 +109,4 @@ starred-hold =
     (λ w i j. ap mean_call (no-sums w i j) ∙ mean-none) &
     (λ w i j. ap variance_call (no-sums w i j) ∙ variance-none) &
     (λ w i j. ap deviation_call (no-sums w i j) ∙ deviation-none) &
-    refl & refl & refl & refl & refl & refl & refl & refl & tt
+    refl & refl & refl & refl & refl & refl & refl & refl & refl & tt

@@ -1,25 +1,26 @@
 -- "Words of demand 3": one claim about every list of row calls.
 --
 -- It is a claim about the code, because each contract gives the function's answer and areas by the very definition that stands here:
---   rows::Session::rows and rows::rows_at             answer, position, work and output area of `row_call`
---   direct::direct_sum                                the answer of `direct_call`
---   table::build, table::read                         answer and area of `build_call`; the answer of `read_call`
---   moments::mean, variance, deviation                the answers of `mean_call`, `variance_call`, `deviation_call`
---   voices::voice_answer                              the answer of `voice_call`
---   correlation::coefficient                          the answer of `coefficient_call`
+--   row_session: rows, rows_plain; in C ls_rows         answer, position, work and output area of `row_call`
+--   direct_sum: direct_sum; ls_direct_sum             the answer of `direct_call`
+--   table: build, read; ls_build, ls_read             answer and area of `build_call`; the answer of `read_call`
+--   statistics: mean, variance, deviation; ls_mean, ..  the answers of `mean_call`, `variance_call`, `deviation_call`
+--   statistics: voice_answer; ls_voice                the answer of `voice_call`
+--   statistics: coefficient; ls_coefficient           the answer of `coefficient_call`
 -- A list of calls of `rows` on one session leaves, call by call, what `next` says of `Progress`; the session's position and work area
 -- after one call are those before the next. The pictures are slices of i16, so `Levels` holds of their contents. The table's area is
 -- what `build` left in it, untouched since.
 -- Assumes nothing.
-use Rattle.std.specs.Prelude.{◌≡◌, ℕ, ◌+◌, ◌*◌, ◌≤◌, ◌<◌, List, [], ◌∷◌, ◌++◌, length, get_or, ℤ, pos, nat_abs}
+use Rattle.std.specs.Prelude.{◌≡◌, ℕ, suc, ◌+◌, ◌*◌, ◌≤◌, ◌<◌, List, [], ◌∷◌, ◌++◌, length, get_or, ℤ, pos, nat_abs}
 use Rattle.std.proofs.Math.Option.{Option, none, some}
-use Rattle.spec_picture.specs.Refusal.{answered, refusal}
-use Rattle.spec_picture.specs.Picture.{Levels, Inputs}
+use Rattle.spec_picture.specs.Refusal.{answered, refusal, outcome}
+use Rattle.spec_picture.specs.Window.{Slanted, rectangle, slanted, shape_of}
+use Rattle.spec_picture.specs.Picture.{Levels, Inputs, plane_at}
 use Rattle.spec_picture.specs.Size.{cells}
 use Rattle.spec_picture.specs.Conditions.{accepted}
 use Rattle.spec_picture.specs.Direct.{direct_sum, direct_call}
 use Rattle.spec_table.specs.Table.{build_call, read_call}
-use Rattle.spec_rows.specs.Rows.{RowOutcome, row_call, row_checks}
+use Rattle.spec_rows.specs.Rows.{RowOutcome, column_sum, row_call, row_checks}
 use Rattle.spec_statistics.specs.SixSums.{six_sums}
 use Rattle.spec_statistics.specs.Moments.{unless_empty, mean, variance, deviation, mean_call, variance_call, deviation_call}
 use Rattle.spec_statistics.specs.Voice.{voice, voice_call}
@@ -81,6 +82,13 @@ pub record Agreement (x : Inputs) (area : List ℤ) (s : Progress) : Type 0 wher
   -- "and also what reading gives there with this window from a table built of these inputs and untouched since"
   pub joined_read : (i j : ℕ) → i < s.granted → j < x.source.size.columns →
       read_call x.source.size (build_call x.source area).area x.window i j ≡ answered (get_or s.joined (i * x.source.size.columns + j) (pos 0))
+  -- "After a granted row i of a session begun fresh .. the work area holds", of one number a column, "for a rectangle, the column sums over rows i-a to i+a;
+  -- for the others, the window sums of row i", which are the direct sums: i is R - 1
+  pub work_length : (i : ℕ) → s.granted ≡ suc i → length s.work ≡ x.source.size.columns
+  pub work_rectangle : (i j a b : ℕ) → s.granted ≡ suc i → j < x.source.size.columns → shape_of x.window ≡ rectangle a b → get_or s.work j (pos 0) ≡ column_sum x.source.size (plane_at x.source) a i j
+  pub work_slanted : (i j : ℕ) (o : Slanted) → s.granted ≡ suc i → j < x.source.size.columns → shape_of x.window ≡ slanted o → get_or s.work j (pos 0) ≡ direct_sum x i j
+  -- what the next call answers, whatever it is: "its granted count is its request", and one that is turned down has the number of the first condition that holds
+  pub next_answer : (c : Call) → (row_call x s.position c.request s.work c.output).answer ≡ outcome (verdict x s c) c.request
   -- at every cell of the picture direct sum and table reading are equal
   pub table_direct : (i j : ℕ) → i < x.source.size.rows → j < x.source.size.columns → read_call x.source.size (build_call x.source area).area x.window i j ≡ direct_call x i j
   -- "Never refused as impossible means that no statistic answers 9 to the six direct sums"

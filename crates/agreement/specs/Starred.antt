@@ -144,6 +144,7 @@ starred =
     (after0.answer is answered 0) ∷
     (after2.answer is answered 2) ∷
     (after1.answer is answered 1) ∷
+    (after3.answer is answered 3) ∷
     ((rows_of_k after1.position 1 after1.work (zeros 3)).answer is refused 7) ∷
     ((rows_of_k after1.position 0 after1.work []).answer is answered 0) ∷
     []

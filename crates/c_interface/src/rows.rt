@@ -7,9 +7,9 @@ ghost use Rattle.spec_rows.specs.Rows.{row_call};
 ghost use Rattle.spec_c.specs.Leaves.{RowCallLeaves};
 
 use crate::replies::hand_back;
-use local_statistics::{Inputs, Shift, Size, Source, Window, rows_at};
+use local_statistics::{Inputs, Shift, Size, Source, Window, rows_plain};
 
-// `row_session::Session::rows`: the sums of the next rows of a session, which in C is its position alone.
+// `row_session::rows_plain`: the sums of the next rows of a session, which in C is its position alone.
 #[unsafe(no_mangle)]
 pub extern "C" fn ls_rows(
     position: &mut usize,
@@ -44,5 +44,5 @@ pub extern "C" fn ls_rows(
             second,
         },
     };
-    hand_back(rows_at(&inputs, position, request, work, out), granted)
+    hand_back(rows_plain(&inputs, position, request, work, out), granted)
 }

@@ -13,8 +13,8 @@ pub use direct_sum::direct_sum;
 // The cumulative table: building it, and reading the window's sum on a cell.
 pub use table::{build, read};
 
-// The row session: the sums of the next rows, by a session or by its position alone.
-pub use row_session::{Session, rows_at};
+// The row session: the sums of the next rows, by a session, or by its position as a plain number.
+pub use row_session::{Session, rows_plain};
 
 // The six sums of a cell, and the answers that have cases.
 pub use spec_statistics::{Coefficient, Grain, Sums, Voice};

@@ -10,7 +10,7 @@ ghost use Rattle.spec_picture.specs.Answers.{outcome_of};
 ghost use Rattle.spec_picture.specs.Given.{inputs_of};
 ghost use Rattle.spec_rows.specs.Rows.{row_call};
 
-pub use crate::row_calls::rows_at;
+use crate::row_calls::rows_at;
 use spec_picture::{Inputs, Refusal};
 
 // "A session is a small record: the position, which is the number of rows granted so far, 0 when fresh."
@@ -35,4 +35,25 @@ impl Session {
     {
         rows_at(inputs, &mut self.position, request, work, out)
     }
+}
+
+// The same for callers that keep the position as a plain number, as C does: a session for the length of the call.
+pub fn rows_plain(
+    inputs: &Inputs<'_>,
+    position: &mut usize,
+    request: usize,
+    work: &mut [i64],
+    out: &mut [i64],
+) -> Result<usize, Refusal>
+    ensures answer { outcome_of result ≡ (row_call (inputs_of inputs.now) position.old request work.old out.old).answer }
+    ensures position { position.new ≡ (row_call (inputs_of inputs.now) position.old request work.old out.old).position }
+    ensures work { work.new ≡ (row_call (inputs_of inputs.now) position.old request work.old out.old).work }
+    ensures output { out.new ≡ (row_call (inputs_of inputs.now) position.old request work.old out.old).output }
+{
+    let mut session = Session {
+        position: *position,
+    };
+    let answer = session.rows(inputs, request, work, out);
+    *position = session.position;
+    answer
 }

@@ -8,7 +8,7 @@ use lib.IntN.{ℤ, pos, negsuc}
 use lib.Ieee.{fin, round}
 use Rattle.numbers.specs.Sum.{sum_to, pick}
 use Rattle.numbers.specs.Round.{floor_div, nearest, root_step, root_in, root, root_over}
-use Rattle.spec_picture.specs.Refusal.{refusal, outcome}
+use Rattle.spec_picture.specs.Refusal.{Outcome, refused, answered, refusal, outcome}
 use Rattle.spec_picture.specs.declared.Cell.{Cell}
 use Rattle.spec_picture.specs.Size.{size, cell, size_legal, in_range}
 use Rattle.spec_picture.specs.Window.{window, rectangle_legal, window_legal, shape_of, height, reach}
@@ -20,6 +20,7 @@ use Rattle.spec_statistics.specs.Moments.{mean, deviation, unless_empty, mean_ca
 use Rattle.spec_statistics.specs.Voice.{over32768, voice, voice_call}
 use Rattle.spec_statistics.specs.Coefficient.{signed, magnitude, coefficient, coefficient_call}
 use Rattle.spec_smoothing.specs.Steady.{find_column, or_else, find_cell, first_steady, steady_call}
+use Rattle.spec_c.specs.Leaves.{RowCallLeaves}
 use Rattle.spec_c.specs.Reply.{Reply, VoiceResult, with_value, status, result_or, reply, sums, of_whole, of_coefficient, of_cell, voice_result, of_voice}
 
 -- ---- the direct sum of a plane of the picture 1 2 over a window of one cell
@@ -95,3 +96,17 @@ pub cells-replied :
     (status (searched (pos 1 ∷ pos 2 ∷ [])) ≡ pos 2)
 unfolding status result_or reply steady_call first_steady find_cell find_column or_else outcome voice direct_sum window_sum plane_at plane_value counts in_range shape_of height reach window_legal rectangle_legal size_legal shift_legal refusal sum_to pick
 cells-replied = (refl, refl, refl, refl, refl)
+
+-- ---- a row call, where granted 77 stood: of 2 rows from position 1 on, and one that is turned down by 7, which keeps all
+abbrev row_call_left : (answer : Outcome ℕ) → (position : ℕ) → (work output : List ℤ) → (status : ℤ) → (granted : ℕ) → Type 0
+row_call_left answer position work output status granted =
+    RowCallLeaves (record { answer = answer; position = position; work = work; output = output }) 77 status granted position work output
+
+pub rows-left :
+    row_call_left (answered 2) 3 (pos 5 ∷ []) (pos 4 ∷ pos 5 ∷ []) (pos 0) 2 ×
+    row_call_left (refused 7) 1 (pos 5 ∷ []) (pos 4 ∷ pos 5 ∷ []) (pos 7) 77
+unfolding status result_or reply
+rows-left = (
+  record { reply_is = record { status_is = refl; value_is = refl }; position_is = refl; work_is = refl; output_is = refl },
+  record { reply_is = record { status_is = refl; value_is = refl }; position_is = refl; work_is = refl; output_is = refl },
+)

@@ -61,6 +61,13 @@ pub rows-limits : (refusal (check1 (size 256 1) ∷ []) ≡ none) × (refusal (c
 unfolding refusal size_legal
 rows-limits = (refl, refl, refl)
 
+-- a rectangle's numbers, "each number 0 to 127": 127 passes, 128 gives 3, and so does -1
+pub rectangle-limits :
+    (refusal (check3 (window 1 (pos 127) (pos 127)) ∷ []) ≡ none) × (refusal (check3 (window 1 (pos 128) (pos 0)) ∷ []) ≡ some 3) × (refusal (check3 (window 1 (pos 0) (pos 128)) ∷ []) ≡ some 3) ×
+    (refusal (check3 (window 1 (negsuc 0) (pos 0)) ∷ []) ≡ some 3) × (refusal (check3 (window 1 (pos 0) (negsuc 0)) ∷ []) ≡ some 3)
+unfolding refusal window_legal rectangle_legal diamond_legal hexagon_legal
+rectangle-limits = (refl, refl, refl, refl, refl)
+
 -- "radius 127 passes, 128 gives 3", and so do a diamond's second number, k + h above 127 and shape 4
 pub window-limits :
     (refusal (check3 (window 2 (pos 127) (pos 0)) ∷ []) ≡ none) × (refusal (check3 (window 2 (pos 128) (pos 0)) ∷ []) ≡ some 3) ×
@@ -68,10 +75,13 @@ pub window-limits :
 unfolding refusal window_legal rectangle_legal diamond_legal hexagon_legal
 window-limits = (refl, refl, refl, refl, refl)
 
--- u from -255 to 255 and v from -1,023 to 1,023
-pub shift-limits : (refusal (check4 (shift (negsuc 254) (pos 1023)) ∷ []) ≡ none) × (refusal (check4 (shift (negsuc 255) (pos 0)) ∷ []) ≡ some 4) × (refusal (check4 (shift (pos 0) (pos 1024)) ∷ []) ≡ some 4)
+-- "u from -255 to 255 and v from -1,023 to 1,023": the last on either side pass, the next give 4
+pub shift-limits :
+    (refusal (check4 (shift (negsuc 254) (pos 1023)) ∷ []) ≡ none) × (refusal (check4 (shift (pos 255) (negsuc 1022)) ∷ []) ≡ none) ×
+    (refusal (check4 (shift (negsuc 255) (pos 0)) ∷ []) ≡ some 4) × (refusal (check4 (shift (pos 256) (pos 0)) ∷ []) ≡ some 4) ×
+    (refusal (check4 (shift (pos 0) (negsuc 1023)) ∷ []) ≡ some 4) × (refusal (check4 (shift (pos 0) (pos 1024)) ∷ []) ≡ some 4)
 unfolding refusal shift_legal
-shift-limits = (refl, refl, refl)
+shift-limits = (refl, refl, refl, refl, refl, refl)
 
 -- "position above rows, or request above rows minus position", of 2 rows: 2 and 0, 1 and 1 pass; 3 and 0, 1 and 2 give 7
 pub request-limits :

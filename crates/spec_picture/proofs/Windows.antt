@@ -37,6 +37,36 @@ turned s p q = same_test (leb p (height s) && leb q (reach s p)) (leb q (width s
     let k = (dual s).from p q (leb→le q (width s) (and_left (leb q (width s)) (leb p (depth s q)) t)) (leb→le p (depth s q) (and_right (leb q (width s)) (leb p (depth s q)) t)) in
     and_both (leb p (height s)) (leb q (reach s p)) (le→leb p (height s) k.0) (le→leb q (reach s p) k.1))
 
+-- ---- the cells of a window in document 01's own words, for a cell (i, j) and a cell (m, n), p and q being how far apart they are
+-- "|p| + |q| ≤ r"
+pub diamond-holds : (z : Size) (r i j m n : ℕ) → holds z (slanted (diamond r)) i j m n ≡ leb (row_gap z i m + column_gap z j n) r
+unfolding height reach
+diamond-holds z r i j m n =
+    let p = row_gap z i m in
+    let q = column_gap z j n in
+    same_test (leb p r && leb q (r - p)) (leb (p + q) r)
+    (λ t. le→leb (p + q) r (omega (arith, leb→le p r (and_left (leb p r) (leb q (r - p)) t), leb→le q (r - p) (and_right (leb p r) (leb q (r - p)) t))))
+    (λ t. and_both (leb p r) (leb q (r - p)) (le→leb p r (omega (arith, leb→le (p + q) r t))) (le→leb q (r - p) (omega (arith, leb→le (p + q) r t))))
+
+-- "|p| ≤ h and |p| + |q| ≤ k + h"
+pub hexagon-holds : (z : Size) (k h i j m n : ℕ) → holds z (slanted (hexagon k h)) i j m n ≡ (leb (row_gap z i m) h && leb (row_gap z i m + column_gap z j n) (k + h))
+unfolding height reach
+hexagon-holds z k h i j m n =
+    let p = row_gap z i m in
+    let q = column_gap z j n in
+    same_test (leb p h && leb q ((k + h) - p)) (leb p h && leb (p + q) (k + h))
+    (λ t.
+    let a = and_left (leb p h) (leb q ((k + h) - p)) t in
+    and_both (leb p h) (leb (p + q) (k + h)) a (le→leb (p + q) (k + h) (omega (arith, leb→le p h a, leb→le q ((k + h) - p) (and_right (leb p h) (leb q ((k + h) - p)) t)))))
+    (λ t.
+    let a = and_left (leb p h) (leb (p + q) (k + h)) t in
+    and_both (leb p h) (leb q ((k + h) - p)) a (le→leb q ((k + h) - p) (omega (arith, leb→le (p + q) (k + h) (and_right (leb p h) (leb (p + q) (k + h)) t)))))
+
+-- "|p| ≤ a and |q| ≤ b"
+pub rectangle-holds : (z : Size) (a b i j m n : ℕ) → holds z (rectangle a b) i j m n ≡ (leb (row_gap z i m) a && leb (column_gap z j n) b)
+unfolding height reach
+rectangle-holds z a b i j m n = refl
+
 pub pick-and : (a b : Bool) (x : ℤ) → pick (a && b) x ≡ pick a (pick b x)
 unfolding pick
 pick-and true b x = refl

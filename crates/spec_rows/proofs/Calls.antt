@@ -5,12 +5,12 @@ use Prim.Native.Nat.{ℕ, zero, suc, ◌+◌, ◌-◌, ◌*◌}
 use native.Mathlib.Omega.{arith}
 use mathlib.Core.Bool.{Bool, not, ◌||◌}
 use mathlib.Core.List.{List, [], ◌∷◌, ◌++◌, append_assoc, append-nil}
-use mathlib.Core.Option.{none, some}
+use mathlib.Core.Option.{Option, none, some}
 use lib.Dec.{ltb, eqb, eqb→eq}
 use lib.ListN.{length}
 use lib.IntN.{ℤ}
 use Rattle.numbers.proofs.Grids.{length-tabulate}
-use Rattle.spec_picture.specs.Refusal.{refused, answered, refusal, numbers_of}
+use Rattle.spec_picture.specs.Refusal.{refused, answered, refusal, outcome, numbers_of}
 use Rattle.spec_picture.specs.declared.Size.{Size}
 use Rattle.spec_picture.specs.Window.{Shape}
 use Rattle.spec_picture.specs.Picture.{Inputs}
@@ -18,6 +18,16 @@ use Rattle.spec_picture.specs.Conditions.{input_checks, check7, check8, accepted
 use Rattle.numbers.proofs.Tests.{of-not}
 use Rattle.spec_picture.proofs.Refusals.{pass_all, none-head, none_rest}
 use Rattle.spec_rows.specs.Rows.{work_value, work_after, output_row, strip, row_checks, row_result, row_call}
+
+-- what a call answers: its whole request where no numbered condition holds, "and answers n"; otherwise the number of the first one that does
+pub row-answers : (x : Inputs) (position request : ℕ) (work output : List ℤ) →
+    (row_call x position request work output).answer ≡ outcome (refusal (row_checks x position request work output)) request
+unfolding row_call row_result outcome
+row-answers x position request work output = go (refusal (row_checks x position request work output))
+  where
+    go : (v : Option ℕ) → (row_result x v position request work output).answer ≡ outcome v request
+    go none = refl
+    go (some k) = refl
 
 -- "Only the number comes back; every lent buffer and the position keep their bytes."
 pub refused-keeps : (x : Inputs) (position request : ℕ) (work output : List ℤ) (k : ℕ) → refusal (row_checks x position request work output) ≡ some k →

@@ -40,6 +40,14 @@ pub one-row :
 unfolding row_call row_result strip output_row work_after work_change work_value enter_leave cell_above cell_below column_sum plane_at plane_value counts in_range shape_of width depth window_legal rectangle_legal diamond_legal size_legal shift_legal refusal wrap tabulate sum_to pick
 one-row = (refl, refl, refl)
 
+-- a work area or an output area of another length is 8, and the call changes nothing at all
+pub other-lengths :
+    (call wide 1 1 (pos 70 ∷ []) (pos 0 ∷ pos 0 ∷ []) ≡ record { answer = refused 8; position = 1; work = pos 70 ∷ []; output = pos 0 ∷ pos 0 ∷ [] }) ×
+    (call wide 1 1 (pos 70 ∷ pos 80 ∷ []) (pos 0 ∷ []) ≡ record { answer = refused 8; position = 1; work = pos 70 ∷ pos 80 ∷ []; output = pos 0 ∷ [] }) ×
+    (call wide 0 0 (pos 70 ∷ pos 80 ∷ []) (pos 0 ∷ []) ≡ record { answer = refused 8; position = 0; work = pos 70 ∷ pos 80 ∷ []; output = pos 0 ∷ [] })
+unfolding row_call row_result window_legal rectangle_legal size_legal shift_legal refusal
+other-lengths = (refl, refl, refl)
+
 -- a request past the last row is 7, before an output area of another length, 8
 pub past-the-last : call wide 1 2 (pos 70 ∷ pos 80 ∷ []) [] ≡ record { answer = refused 7; position = 1; work = pos 70 ∷ pos 80 ∷ []; output = [] }
 unfolding row_call row_result window_legal rectangle_legal size_legal shift_legal refusal

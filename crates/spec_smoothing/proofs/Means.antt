@@ -3,7 +3,7 @@
 use mathlib.Core.Path.{◌≡◌, refl, sym, ◌∙◌, ap, subst}
 use Prim.Native.Nat.{ℕ, ◌+◌, ◌*◌, ◌^◌, ◌<◌}
 use native.Mathlib.Omega.{arith}
-use mathlib.Core.Bool.{◌&&◌}
+use mathlib.Core.Bool.{not, ◌&&◌}
 use mathlib.Core.List.{List, [], ◌∷◌}
 use mathlib.Core.Option.{none, some}
 use lib.Dec.{T, leb, ltb, lt→ltb, le→leb}
@@ -15,12 +15,12 @@ use Rattle.numbers.specs.Round.{nearest}
 use Rattle.numbers.proofs.Integers.{leℤ, of_le}
 use Rattle.numbers.proofs.Laws.{≤ℤ-trans}
 use Rattle.numbers.proofs.Sums.{pick_yes}
-use Rattle.numbers.proofs.Tests.{and_both}
+use Rattle.numbers.proofs.Tests.{and_both, of-not}
 use Rattle.numbers.proofs.SumOrders.{sum-le, sum-scale, sum_one, sum_nonneg, pick-le, pick-nonneg, pick-scale}
 use Rattle.numbers.proofs.Grids.{get_or-grid}
 use Rattle.numbers.proofs.Rounds.{nearest-law, nearest-within}
 use Rattle.spec_picture.specs.Refusal.{refused, answered, refusal, numbers_of}
-use Rattle.spec_picture.proofs.Refusals.{filling-none, filling-some}
+use Rattle.spec_picture.proofs.Refusals.{filling-none, filling-some, none-head, none_rest}
 use Rattle.spec_picture.specs.declared.Size.{Size}
 use Rattle.spec_picture.specs.Size.{size, size_legal, in_range}
 use Rattle.spec_picture.specs.declared.Window.{Window}
@@ -28,7 +28,10 @@ use Rattle.spec_picture.specs.Window.{window, rectangle_legal, window_legal, Sha
 use Rattle.spec_picture.specs.Picture.{Levels, Inputs, counts, plane_value, plane_at, level_of}
 use Rattle.spec_picture.specs.Direct.{window_sum, direct_sum}
 use Rattle.spec_statistics.specs.SixSums.{six_sums, on_plane, count}
-use Rattle.spec_statistics.specs.Moments.{mean}
+use Rattle.spec_statistics.specs.Moments.{mean, mean_call}
+use Rattle.spec_statistics.proofs.Answers.{answers-some}
+use Rattle.spec_statistics.proofs.Bounds.{possible-has}
+use Rattle.spec_statistics.proofs.Possible.{sums-possible}
 use Rattle.spec_smoothing.specs.Smoothing.{alone, smoothed, smooth_checks, smooth_call}
 
 module _ (z : Size) (f : List ℤ) (w : Window) where
@@ -125,6 +128,21 @@ module _ (z : Size) (f : List ℤ) (w : Window) where
 pub smoothed-at : (z : Size) (f : List ℤ) (w : Window) (i j : ℕ) → i < z.rows → j < z.columns → get_or (smoothed z f w) (i * z.columns + j) (pos 0) ≡ mean (six_sums (alone z f w) i j)
 unfolding smoothed
 smoothed-at z f w i j hi hj = get_or-grid z.rows z.columns i j (λ i j. mean (six_sums (alone z f w) i j)) (pos 0) hi hj
+
+-- what the checks of smoothing leave
+taken-window : (z : Size) (f : List ℤ) (w : Window) (output : List ℤ) → refusal (smooth_checks z f w output) ≡ none → T (window_legal w)
+taken-window z f w output e = of-not (window_legal w) (none-head 3 (not (window_legal w)) _ (none_rest 2 _ _ (none_rest 1 _ _ e)))
+
+-- the public mean answers at every cell of a picture that is taken, and each number that smoothing writes is its answer: never Empty, since a cell counts itself
+pub mean-smoothed : (z : Size) (f : List ℤ) (w : Window) (output : List ℤ) → Levels f → refusal (smooth_checks z f w output) ≡ none → (i j : ℕ) → i < z.rows → j < z.columns →
+    mean_call (six_sums (alone z f w) i j) ≡ answered (some (get_or (smoothed z f w) (i * z.columns + j) (pos 0)))
+unfolding mean_call
+mean-smoothed z f w output lv e i j hi hj =
+    let s = six_sums (alone z f w) i j in
+    let fair = sums-possible (alone z f w) lv lv (taken-window z f w output e) i j in
+    let some_cell = (as-count z f w lv s.n (counted z f w i j hi hj)).1 in
+    sym (answers-some s (mean s) (possible-has s fair) (λ n. omega (arith, some_cell, n)))
+    ∙ ap (λ (m : ℤ). answered (some m)) (sym (smoothed-at z f w i j hi hj))
 
 -- a call that is taken writes the means; one that is refused keeps the output
 pub smooth-writes : (z : Size) (f : List ℤ) (w : Window) (output : List ℤ) → refusal (smooth_checks z f w output) ≡ none →

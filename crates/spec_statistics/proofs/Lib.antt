@@ -2,6 +2,7 @@ pub mod Answers
 pub mod Bounds
 pub mod Examples
 pub mod Fits
+pub mod FloatBits
 pub mod Floats
 pub mod Forms
 pub mod Halving

@@ -1,5 +1,5 @@
 // Row sessions beside the rival's: lists of calls from a fresh session, and from foreign positions and work areas; some of the calls are to be refused.
-use local_statistics::{Cell, Refusal, rows_at};
+use local_statistics::{Cell, Refusal, rows_plain};
 use std::io;
 use trial_support::cases::Case;
 use trial_support::rival::{Given, total};
@@ -92,7 +92,7 @@ fn call(given: Given, fresh: bool, n: u64, before: Stand, t: Tally) -> (Stand, T
         .saturating_add(wrong)
         .min(ROOM);
     let mut after = before;
-    let answer = rows_at(
+    let answer = rows_plain(
         &given.inputs(),
         &mut after.position,
         request,
