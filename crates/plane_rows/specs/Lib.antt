@@ -1,3 +1,4 @@
 pub mod Lines
 pub mod Overlaps
 pub mod Parts
+pub mod RowLevels

@@ -1,9 +1,7 @@
 -- What the output row asks.
 -- Assumes nothing.
-use Rattle.std.specs.Prelude.{◌≡◌, List, T, length, ℤ}
+use Rattle.std.specs.Prelude.{◌≡◌, List, length, ℤ}
 use Rattle.spec_picture.specs.declared.Size.{Size}
-use Rattle.spec_picture.specs.declared.Window.{Window}
-use Rattle.spec_picture.specs.Window.{window_legal}
 
 -- A work area, and room for a row. The lengths stand in each contract, here and below: callers lend the slices one by one, most of them as `&mut`, and no ghost
 -- field of a type can tie two of those to a size.

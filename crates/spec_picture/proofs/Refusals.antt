@@ -10,7 +10,6 @@ use lib.ListN.{length}
 use lib.IntN.{ℤ}
 use Rattle.numbers.proofs.Tests.{off, and_left, and_right, and_both, of-not, not-of}
 use Rattle.spec_picture.specs.Refusal.{Check, ◌when◌, refused, answered, refusal, outcome, filling, numbers_of}
-use Rattle.std.specs.Prelude as code
 use Rattle.std.specs.Prelude.{Result, Ok, Err, IsErrAnd}
 use Rattle.spec_picture.specs.declared.Refusal.{Refusal}
 use Rattle.spec_picture.specs.Answers.{number, outcome_by}

@@ -1,10 +1,11 @@
 -- `table::fill::whole` meets its contract. Assumes nothing.
-use mathlib.Core.Path.{◌≡◌, sym}
+use borrow.Author.Rules.{rules}
+use mathlib.Core.Path.{◌≡◌, refl, sym, ◌∙◌}
 use Prim.Native.Nat.{ℕ, ◌≤◌}
 use mathlib.Core.List.{[]}
 use native.Mathlib.Omega.{arith}
 use lib.Dec.{T}
-use lib.ListN.{length-append, length-drop}
+use lib.ListN.{drop, length-append, length-drop}
 use lib.Seq.{length-take-le}
 use Rattle.numbers.proofs.Lines.{line-end, lines-all, tabulated-length}
 use Rattle.spec_picture.specs.declared.Size.{Size}
@@ -30,6 +31,20 @@ slice_bounds-first-end-2 c = sym (length-take-le _ _ (row-fits c.args.source.now
 pub part-requires : goal.part-requires
 part-requires c = omega (arith, length-take-le _ _ (row-fits c.args.source.now.size _ c.args.source.now.legal c.requires))
 
+pub slice_bounds-levels-end : goal.slice_bounds-levels-end
+slice_bounds-levels-end c = omega (arith, (in-limits c.args.source.now.size c.args.source.now.legal).few_columns, c.loop-i.invariant.buffer)
+
+pub slice_bounds-table_row-end : goal.slice_bounds-table_row-end
+slice_bounds-table_row-end c = sym (length-take-le _ _ (omega (arith, (in-limits c.args.source.now.size c.args.source.now.legal).few_columns, c.loop-i.invariant.buffer)))
+
+pub table_row-requires : goal.table_row-requires
+table_row-requires c = record {
+  inside = search rules;
+  width_above = search rules;
+  width_buffer = length-take-le _ _ (omega (arith, (in-limits c.args.source.now.size c.args.source.now.legal).few_columns, c.loop-i.invariant.buffer));
+  width = length-take-le _ _ (omega (arith, c.split_at_mut-before.ensures.back_len, c.loop-i.invariant.full, line-end c.loop-i.i c.args.source.now.size.rows c.args.source.now.size.columns (omega arith)));
+}
+
 pub loop-i-init : goal.loop-i-init
 loop-i-init c =
     let source = c.args.source.now in
@@ -40,6 +55,7 @@ loop-i-init c =
     record {
       below = omega arith;
       within = lim.some_rows;
+      buffer = refl;
       full = simp (length-append, length-drop) (omega (arith, c.first_row.auto.row, c.part.auto.out, width, fits, c.requires));
       lines = first-rows (plane_at plane) (plane-bound plane source.levels_f source.levels_g) source.size.columns lim.few_columns _ _ (row-of-part (plane_at plane) 0 width [] _ _ c.part.ensures c.first_row.ensures);
     }
@@ -54,6 +70,7 @@ loop-i-preserved c =
     record {
       below = omega arith;
       within = omega arith;
+      buffer = length-append c.table_row.new.buffer (drop source.size.columns l.levels) ∙ omega (arith, c.table_row.auto.buffer, length-take-le source.size.columns l.levels (omega (arith, lim.few_columns, l.invariant.buffer)), length-drop source.size.columns l.levels, lim.few_columns, l.invariant.buffer);
       full = simp (length-append, length-drop) (omega (arith, parts.front_len, parts.back_len, tabulated-length c.table_row.new.row _ _ c.table_row.ensures, l.invariant.full, line-end l.i source.size.rows source.size.columns (omega arith)));
       lines = next-rows (plane_at plane) (plane-bound plane source.levels_f source.levels_g) source.size.columns lim.few_columns l.i l.table _ _ _
           l.invariant.below (omega (arith, lim.few_rows)) parts.front_len parts.front l.invariant.lines c.table_row.ensures;

@@ -12,6 +12,7 @@ abbrev pub invariant-loop-i : goal.invariant-loop-i
 invariant-loop-i l = record {
   below : 1 ≤ l.i;
   within : l.i ≤ l.source.size.rows;
+  buffer : length l.levels ≡ 1024;
   full : length l.table ≡ l.source.size.rows * l.columns;
   lines : Lines (table_at (plane_at (checked_source l.source))) l.columns l.table l.i;
 }

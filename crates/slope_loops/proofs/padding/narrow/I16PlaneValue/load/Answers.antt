@@ -6,4 +6,4 @@ pub returns-then-y-lt128 : goal.returns-then-y-lt128
 returns-then-y-lt128 c = load-above c.args.source.now _ _ _ c.requires.1 c.fill.auto.out c.if-y-lt128.true _ c.fill.ensures
 
 pub returns : goal.returns
-returns c = load_row c.args.source.now _ _ _ c.requires.1 c.row.auto.out c.if-y-lt128.false _ c.row.ensures
+returns c = load_row c.args.source.now _ _ _ c.requires.1 c.copied_row.auto.out c.if-y-lt128.false _ c.copied_row.ensures

@@ -1,4 +1,4 @@
--- A row of a plane of levels, all of whose cells count: the levels as they are lent.
+-- A row of a plane as levels: as they are lent where all of its cells count, or copied.
 -- Assumes nothing.
 use mathlib.Core.Path.{◌≡◌, sym, ◌∙◌, ap}
 use mathlib.Core.List.{List}
@@ -7,7 +7,9 @@ use native.Mathlib.Omega.{arith}
 use lib.IntN.{ℤ}
 use lib.ListN.{length}
 use Rattle.std.specs.Prelude.{Some}
-use Rattle.numbers.proofs.Writes.{at}
+use Rattle.numbers.specs.Grid.{tabulate}
+use Rattle.numbers.proofs.Grids.{length-tabulate}
+use Rattle.numbers.proofs.Writes.{at, tabulate-at}
 use Rattle.spec_picture.specs.Plane.{plane_number}
 use Rattle.spec_picture.specs.declared.plane.Plane.{Plane}
 use Rattle.spec_picture.specs.declared.plane.Plane.TheVariants.{F, G}
@@ -16,7 +18,7 @@ use Rattle.plane_rows.specs.declared.lines.Counting.{Counting}
 use Rattle.plane_rows.specs.declared.lines.line.Line.{Line}
 use Rattle.plane_rows.specs.Lines.{line_length, CountingOf, line_value, row_value}
 use Rattle.plane_rows.proofs.LineValues.{line-on, row-value}
-use Rattle.table.specs.Fill.{RowLevels}
+use Rattle.plane_rows.specs.RowLevels.{RowLevels}
 
 -- planes of levels
 pub value_f : (p : Plane) (a b : ℤ) → p ≡ F → plane_value (plane_number p) a b ≡ a
@@ -36,4 +38,11 @@ row-levels x q w i l levels size found all same = record {
   same = λ k k<.
       let first : q.columns.first + k ≡ k = omega (arith, all, w.columns.within) in
       sym (same k) ∙ line-on x.plane l k ∙ found k (omega arith) ∙ row-value x q w i k (omega arith) ∙ ap (plane_at x i) first;
+}
+
+-- a row that was copied is a row of levels
+pub copied-levels : (x : Source) (i : ℕ) (levels : List ℤ) → levels ≡ tabulate x.size.columns (plane_at x i) → RowLevels x i levels
+copied-levels x i levels e = record {
+  width = ap length e ∙ length-tabulate x.size.columns (plane_at x i);
+  same = λ j j<. tabulate-at levels x.size.columns (plane_at x i) e j (omega (arith, ap length e ∙ length-tabulate x.size.columns (plane_at x i)));
 }

@@ -1,8 +1,8 @@
--- `slope_loops::padding::narrow::row` meets its contract. Assumes nothing.
+-- `plane_rows::level_rows::copied_row` meets its contract. Assumes nothing.
 use Rattle.spec_picture.specs.Checked.{checked_source}
 use Rattle.plane_rows.proofs.LineValues.{asked}
-use Rattle.slope_loops.proofs.Rows.{row-none, row-some}
-use Rattle.slope_loops.proofs.padding.narrow.row.Goals as goal
+use Rattle.plane_rows.proofs.CopiedRows.{row-none, row-some}
+use Rattle.plane_rows.proofs.level_rows.copied_row.Goals as goal
 
 pub line_of-requires : goal.line_of-requires
 line_of-requires c = asked (checked_source c.args.source.now) _ c.counting_of-counting.ensures

@@ -1,9 +1,9 @@
--- `table::fill::levels_of` meets its contract. Assumes nothing.
+-- `plane_rows::level_rows::own_row` meets its contract. Assumes nothing.
 use mathlib.Core.Path.{◌∙◌}
 use Rattle.spec_picture.specs.Checked.{checked_source}
 use Rattle.plane_rows.proofs.LineValues.{asked}
-use Rattle.table.proofs.LevelRows.{value_f, value_g, row-levels}
-use Rattle.table.proofs.fill.levels_of.Goals as goal
+use Rattle.plane_rows.proofs.OwnRows.{value_f, value_g, row-levels}
+use Rattle.plane_rows.proofs.level_rows.own_row.Goals as goal
 
 pub line_of-requires : goal.line_of-requires
 line_of-requires c = asked (checked_source c.args.source.now) _ c.counting_of-counting.ensures
