@@ -40,20 +40,30 @@ fn is_voice(answer: Result<Voice, Refusal>, z: Sums) -> bool {
     }
 }
 
-// "Empty if N = 0; Flat if Vf or Vg is 0"; otherwise the number, where 64 bits hold the products.
-fn is_coefficient(answer: Result<Coefficient, Refusal>, z: Sums) -> bool {
-    let (vf, vg) = squares(z);
-    let flat = vf == 0 || vg == 0;
-    match answer {
-        Ok(Coefficient::Empty) => z.n == 0,
-        Ok(Coefficient::Flat) => z.n != 0 && flat,
-        Ok(Coefficient::Value(_)) if vf >= 4000000 || vg >= 4000000 => true,
-        Ok(Coefficient::Value(c)) => {
-            let moment = moments::central(z.n, z.p, z.s, z.t);
-            z.n != 0 && !flat && c == moments::coefficient(vf, vg, moment)
-        }
-        Err(_) => false,
+// A coefficient as a number: none for Empty, and one beyond every value for Flat.
+fn number(coefficient: Coefficient) -> Option<i64> {
+    match coefficient {
+        Coefficient::Empty => None,
+        Coefficient::Flat => Some(i64::MAX),
+        Coefficient::Value(c) => Some(c),
     }
+}
+
+// "Empty if N = 0; Flat if Vf or Vg is 0"; otherwise the number where 64 bits hold the products, and where they do not any number from -1000 to 1000, which the
+// checksum takes.
+fn coefficient(z: Sums, ours: Option<i64>) -> Option<i64> {
+    let (vf, vg) = squares(z);
+    if z.n == 0 {
+        return None;
+    }
+    if vf == 0 || vg == 0 {
+        return Some(i64::MAX);
+    }
+    if vf < 4000000 && vg < 4000000 {
+        let moment = moments::central(z.n, z.p, z.s, z.t);
+        return Some(moments::coefficient(vf, vg, moment));
+    }
+    Some(ours.unwrap_or(0).clamp(-1000, 1000))
 }
 
 // The five statistics of six sums: "Mean, variance and deviation answer Empty when N = 0".
@@ -63,11 +73,12 @@ fn of_sums(z: Sums, t: Tally) -> Tally {
     let mean = unless_empty(moments::mean(z.n, z.s));
     let variance = unless_empty(moments::variance(z.n, vf));
     let deviation = unless_empty(moments::deviation(z.n, vf));
+    let ours = local_statistics::coefficient(z).map(number);
     t.with(local_statistics::mean(z), Ok(mean))
         .with(local_statistics::variance(z), Ok(variance))
         .with(local_statistics::deviation(z), Ok(deviation))
         .with(is_voice(local_statistics::voice_answer(z), z), true)
-        .with(is_coefficient(local_statistics::coefficient(z), z), true)
+        .with(ours, Ok(coefficient(z, ours.unwrap_or(None))))
 }
 
 // One case: its pictures made, and the statistics at 24 cells.
