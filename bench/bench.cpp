@@ -30,6 +30,7 @@ void plain_build(size_t rows, size_t columns, const int16_t *f, int64_t *table);
 int64_t plain_read(size_t rows, size_t columns, const int64_t *table, uint32_t shape, size_t first, size_t second, size_t row, size_t column);
 int64_t plain_direct_sum(size_t rows, size_t columns, const int16_t *f, uint32_t shape, size_t first, size_t second, size_t row, size_t column);
 void plain_rectangle(size_t rows, size_t columns, const int16_t *f, size_t a, size_t b, bool squares, int64_t *work, int64_t *out);
+void plain_products(size_t rows, size_t columns, const int16_t *f, const int16_t *g, size_t down, size_t right, size_t a, size_t b, int64_t *work, int64_t *out);
 void plain_slanted(size_t rows, size_t columns, const int16_t *f, size_t k, size_t h, int64_t *work, int64_t *out);
 void plain_smooth(size_t rows, size_t columns, const int16_t *f, size_t a, size_t b, int16_t *out);
 size_t plain_steady(size_t rows, size_t columns, const int16_t *f, size_t a, size_t b);
@@ -39,7 +40,7 @@ namespace {
 
 constexpr size_t ROWS = 256, COLUMNS = 1024, CELLS = ROWS * COLUMNS;
 
-std::vector<int16_t> picture(CELLS);
+std::vector<int16_t> picture(CELLS), other_picture(CELLS);
 std::vector<int64_t> work(COLUMNS), sums(CELLS), rival(CELLS), table(CELLS), copied(CELLS);
 std::vector<int16_t> means(CELLS), rival_means(CELLS);
 
@@ -79,14 +80,21 @@ const Library NOW = {ls_direct_sum, ls_build, ls_read, ls_rows, ls_smooth, ls_st
 const Library OLD = {old_ls_direct_sum, old_ls_build, old_ls_read, old_ls_rows, old_ls_smooth, old_ls_steady};
 #endif
 
-// The whole picture's sums, by calls of n rows each.
-void library_rows(const Library &l, Window w, uint32_t plane, size_t n, std::vector<int64_t> &out) {
+struct Shift {
+    int32_t down, right;
+};
+
+// The sums of the two pictures, by calls of n rows each.
+void library_two(const Library &l, Window w, Shift d, uint32_t plane, const int16_t *g, size_t n, std::vector<int64_t> &out) {
     size_t position = 0, count = 0;
     while (position < ROWS)
-        granted(l.rows(&position, ROWS, COLUMNS, picture.data(), CELLS, picture.data(), CELLS, w.shape, w.first, w.second, 0, 0, plane, n, work.data(), COLUMNS,
+        granted(l.rows(&position, ROWS, COLUMNS, picture.data(), CELLS, g, CELLS, w.shape, w.first, w.second, d.down, d.right, plane, n, work.data(), COLUMNS,
                        out.data() + position * COLUMNS, n * COLUMNS, &count),
                 "ls_rows");
 }
+
+// The whole picture's sums, by calls of n rows each.
+void library_rows(const Library &l, Window w, uint32_t plane, size_t n, std::vector<int64_t> &out) { library_two(l, w, {0, 0}, plane, picture.data(), n, out); }
 
 void library_build(const Library &l, std::vector<int64_t> &out) {
     granted(l.build(ROWS, COLUMNS, picture.data(), CELLS, picture.data(), CELLS, 0, 0, LS_PLANE_F, out.data(), CELLS), "ls_build");
@@ -304,6 +312,50 @@ void rectangles(uint32_t plane, const std::string &title, const std::string &tex
         row(name + ", one call", "plain Rust", r, one, plain);
         row(name + ", one call", "the copy", r, one, copy);
         if (!squares && (half == 1 || half == 127)) absolutely("`ls_rows`: all rows by one call, rectangle " + name, r, one);
+    }
+}
+
+// Products of two pictures; OpenCV multiplies them first, to 64-bit floats. Under a shift it has no like.
+void products() {
+    section("Sums of products over rectangles", "Plane 5 of two pictures; `cv::multiply` to CV_64F and `cv::boxFilter` are timed together. The shift is 3 rows down and 40 columns to the right.");
+    for (int32_t half : HALVES) {
+        const Window w = {LS_RECTANGLE, half, half};
+        const std::string name = square(half);
+        for (Shift d : {Shift{0, 0}, Shift{3, 40}}) {
+            const bool shifted = d.right > 0;
+            const auto library = [=](const Library &l, size_t n, std::vector<int64_t> &out) { library_two(l, w, d, LS_PLANE_PRODUCT, other_picture.data(), n, out); };
+            const auto plain_rust = [=] {
+                plain_products(ROWS, COLUMNS, picture.data(), other_picture.data(), unsigned_of(d.down), unsigned_of(d.right), unsigned_of(half), unsigned_of(half), work.data(), rival.data());
+            };
+            library(NOW, ROWS, sums);
+            plain_rust();
+            equal("products " + name, sums, rival);
+            library(NOW, 1, rival);
+            equal("products by single rows", sums, rival);
+            Runs r;
+            const size_t one = r.ours([=](const Library &l) { library(l, ROWS, sums); });
+            const size_t single = r.ours([=](const Library &l) { library(l, 1, sums); });
+            const size_t plain = r.other(plain_rust);
+#ifdef WITH_OPENCV
+            static cv::Mat product, to64;
+            const cv::Mat other(ROWS, COLUMNS, CV_16S, other_picture.data());
+            const auto box64 = [=] {
+                cv::multiply(levels(), other, product, 1, CV_64F);
+                cv::boxFilter(product, to64, CV_64F, cv::Size(2 * half + 1, 2 * half + 1), cv::Point(-1, -1), false, cv::BORDER_CONSTANT);
+            };
+            if (!shifted) {
+                box64();
+                equal_mat("OpenCV's products", sums, to64);
+            }
+            const size_t opencv = shifted ? one : r.other(box64);
+#endif
+            r.measure(60);
+#ifdef WITH_OPENCV
+            if (!shifted) row(name + ", one call", "`cv::multiply`, `cv::boxFilter`", r, one, opencv);
+#endif
+            row(name + (shifted ? ", shifted, one call" : ", one call"), "plain Rust", r, one, plain);
+            row(name + (shifted ? ", shifted, calls of 1 row" : ", calls of 1 row"), "plain Rust", r, single, plain);
+        }
     }
 }
 
@@ -553,6 +605,10 @@ int main(int argc, char **argv) {
         seed ^= seed << 13, seed ^= seed >> 7, seed ^= seed << 17;
         level = static_cast<int16_t>(seed >> 32);
     }
+    for (auto &level : other_picture) {
+        seed ^= seed << 13, seed ^= seed >> 7, seed ^= seed << 17;
+        level = static_cast<int16_t>(seed >> 32);
+    }
 #ifdef WITH_OPENCV
     cv::setNumThreads(1);
     const std::string opencv = CV_VERSION;
@@ -563,6 +619,7 @@ int main(int argc, char **argv) {
     tables();
     rectangles(LS_PLANE_F, "Row sums over rectangles", "Plane 1; `cv::boxFilter` is unnormalised, with zeros around the picture, and the copy is that of the sums' bytes.");
     rectangles(LS_PLANE_F_SQUARED, "Sums of squares over rectangles", "Plane 3, one call.");
+    products();
     slanted();
     smoothing();
     searching();

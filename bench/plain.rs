@@ -129,6 +129,38 @@ pub unsafe extern "C" fn plain_rectangle(rows: usize, columns: usize, f: *const 
     }
 }
 
+/// Every sum over a rectangle of the products f(m, n) * g(m + down, n + right): what enters and leaves is multiplied as it is added.
+#[no_mangle]
+pub unsafe extern "C" fn plain_products(
+    rows: usize, columns: usize, f: *const i16, g: *const i16, down: usize, right: usize, a: usize, b: usize, work: *mut i64, out: *mut i64,
+) {
+    let f = from_raw_parts(f, rows * columns);
+    let g = from_raw_parts(g, rows * columns);
+    let work = from_raw_parts_mut(work, columns);
+    let out = from_raw_parts_mut(out, rows * columns);
+    let counting = columns - right;
+    let row = |m: usize| (&f[m * columns..m * columns + counting], &g[(m + down) * columns + right..(m + down + 1) * columns]);
+    let last = rows - down;
+    work.fill(0);
+    for m in 0..a.min(last) {
+        let (x, y) = row(m);
+        work.iter_mut().zip(x.iter().zip(y)).for_each(|(w, (&x, &y))| *w += x as i64 * y as i64);
+    }
+    for i in 0..rows {
+        let enter = (i + a < last).then(|| row(i + a));
+        let leave = (i > a && i - a - 1 < last).then(|| row(i - a - 1));
+        match (enter, leave) {
+            (Some((x, y)), Some((c, d))) => {
+                work.iter_mut().zip(x.iter().zip(y).zip(c.iter().zip(d))).for_each(|(w, ((&x, &y), (&c, &d)))| *w += x as i64 * y as i64 - c as i64 * d as i64)
+            }
+            (Some((x, y)), None) => work.iter_mut().zip(x.iter().zip(y)).for_each(|(w, (&x, &y))| *w += x as i64 * y as i64),
+            (None, Some((c, d))) => work.iter_mut().zip(c.iter().zip(d)).for_each(|(w, (&c, &d))| *w -= c as i64 * d as i64),
+            (None, None) => {}
+        }
+        slide(work, b, &mut out[i * columns..(i + 1) * columns]);
+    }
+}
+
 /// Every sum over a diamond or hexagon: the cells on the lower edge enter and those on the upper edge leave, column by column of the window.
 #[no_mangle]
 pub unsafe extern "C" fn plain_slanted(rows: usize, columns: usize, f: *const i16, k: usize, h: usize, work: *mut i64, out: *mut i64) {

@@ -1,4 +1,4 @@
-// The direct sum: its checks, and the sum of the plane over the window.
+// The direct sum: the sum of the plane over the window.
 #![tactic(auto, unfolding(spec_picture::specs::Refusal::refusal, spec_picture::specs::Refusal::outcome, spec_picture::specs::Direct::direct_call))]
 
 pub mod row_totals; // row_totals.rt: the values of a row's cells, summed
@@ -9,7 +9,7 @@ ghost use Rattle.spec_picture.specs.Given.{inputs_of};
 ghost use Rattle.spec_picture.specs.Direct.{direct_call};
 ghost use Rattle.spec_picture.specs.Answers.{outcome_of};
 
-use checks::check_direct;
+use checks::operations::check_direct;
 use spec_picture::{Cell, Inputs, Refusal};
 
 // "Direct sum: from pictures, window, shift, plane and cell, the sum of the plane over the window." Refused by 1 to 6.

@@ -145,6 +145,30 @@ near_step n i r f =
     rw (sum_near n (suc i) r f, sum_near n i r f, sum_more n (suc i + r) f, sum_less n i r f, e)
     (step4 (sum_to (min (suc i + r) n) f) (pick (ltb (suc i + r) n) (f (suc i + r))) (sum_to (min (i - r) n) f) (pick (leb r i) (pick (ltb (i - r) n) (f (i - r)))))
 
+-- what comes in less what is left behind where the centre moves to i, among n values
+abbrev pub near-change : (n r : ℕ) (f : ℕ → ℤ) → ℕ → ℤ
+near-change n r f i = pick (ltb (i + r) n) (f (i + r)) -ℤ pick (leb (suc r) i) (pick (ltb (i - suc r) n) (f (i - suc r)))
+
+ends-moved : (n r m : ℕ) (f : ℕ → ℤ) → sum_to (min (m + r) n) f -ℤ sum_to (min (m - suc r) n) f ≡ sum_to (min r n) f +ℤ sum_to m (near-change n r f)
+unfolding sum_to
+ends-moved n r zero f =
+    let e : min (0 + r) n ≡ min r n = omega arith in
+    let e' : min (0 - suc r) n ≡ 0 = omega arith in
+    rw (e, e')
+ends-moved n r (suc m) f =
+    let e : min (suc m + r) n ≡ min (suc (m + r)) n = omega arith in
+    rw (e, sum_more n (m + r) f, sum_less n m (suc r) f)
+    (step4 (sum_to (min (m + r) n) f) (pick (ltb (m + r) n) (f (m + r))) (sum_to (min (m - suc r) n) f) (pick (leb (suc r) m) (pick (ltb (m - suc r) n) (f (m - suc r))))
+    ∙ ap (λ (z : ℤ). z +ℤ near-change n r f m) (ends-moved n r m f)
+    ∙ +ℤ_assoc (sum_to (min r n) f) (sum_to m (near-change n r f)) (near-change n r f m))
+
+-- the values at most r from j: the first r, and what came in less what was left behind as the centre moved from 0 to j
+pub near-moved : (n j r : ℕ) (f : ℕ → ℤ) → sum_to n (λ k. pick (leb (dist j k) r) (f k)) ≡ sum_to (min r n) f +ℤ sum_to (j + 1) (near-change n r f)
+near-moved n j r f =
+    let e : min (suc (j + r)) n ≡ min (j + 1 + r) n = omega arith in
+    let e' : min (j - r) n ≡ min (j + 1 - suc r) n = omega arith in
+    rw (sum_near n j r f, e, e') (ends-moved n r (j + 1) f)
+
 -- a sum of n values none of which is larger than M
 pub sum_bound : (n M : ℕ) (f : ℕ → ℤ) → ((k : ℕ) → k < n → nat_abs (f k) ≤ M) → nat_abs (sum_to n f) ≤ n * M
 unfolding sum_to

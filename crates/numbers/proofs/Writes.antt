@@ -4,7 +4,7 @@ use mathlib.Core.Path.{◌≡◌, refl, sym, ap, ◌∙◌}
 use mathlib.Core.List.{List, ◌++◌}
 use Prim.Native.Nat.{ℕ, ◌+◌, ◌-◌, ◌≤◌, ◌<◌}
 use native.Mathlib.Omega.{arith}
-use native.Mathlib.Decide.{ℕ_discrete}
+use native.Mathlib.Decide.{ℕ_discrete, dec_lt}
 use lib.IntN.{ℤ, pos}
 use lib.ListN.{length, get_or, take, drop, set, length-set, length-append, length-take, length-drop, get_or-append}
 use lib.Seq.{get_or-set_same, get_or-set_other, ext_get_or, get_or-append-add, get_or-take, get_or-drop, length-take-le}
@@ -79,6 +79,22 @@ module _ (lo hi : ℕ) (l part : List ℤ) (o : lo ≤ hi) (h : hi ≤ length l)
 
 pub part_length : (lo hi : ℕ) (l part : List ℤ) → lo ≤ hi → hi ≤ length l → length part ≡ hi - lo → length (put_mid lo (hi - lo) l part) ≡ length l
 part_length lo hi l part o h e = simp (length-append, length-take, length-drop) (omega arith)
+
+-- ---- a list that is written part by part from the front, f being what it comes to hold
+module _ {f : ℕ → ℤ} {old now : List ℤ} {lo : ℕ} (u : Upto f old now lo) (hi : ℕ) (part : List ℤ) (o : lo ≤ hi) (h : hi ≤ length old) (e : length part ≡ hi - lo) (p : (k : ℕ) → k < hi - lo → at part k ≡ f (lo + k)) where
+  part-done : (k : ℕ) → k < hi → Dec (k < lo) → at (put_mid lo (hi - lo) now part) k ≡ f k
+  part-done k l (yes b) = part-before lo hi now part o (omega (arith, u.size)) e k b ∙ u.done k b
+  part-done k l (no b) =
+      let q : lo + (k - lo) ≡ k = omega arith in
+      part-within lo hi now part o (omega (arith, u.size)) e k (omega arith) l ∙ p (k - lo) (omega arith) ∙ ap f q
+
+  pub upto-part : Upto f old (put_mid lo (hi - lo) now part) hi
+  upto-part = record {
+    bound = h;
+    size = part_length lo hi now part o (omega (arith, u.size)) e ∙ u.size;
+    done = λ k l. part-done k l (dec_lt k lo);
+    rest = λ k l. part-after lo hi now part o (omega (arith, u.size)) e k l ∙ u.rest k (omega arith);
+  }
 
 -- a part of a list, from lo to hi, that is read
 pub slice_at : (lo hi : ℕ) (l : List ℤ) → lo ≤ hi → hi ≤ length l → (k : ℕ) → k < hi - lo → at (take (hi - lo) (drop lo l)) k ≡ at l (lo + k)

@@ -1,7 +1,5 @@
-pub mod CopiedRows
-pub mod Exchanges
+pub mod CountingCells
+pub mod FactorLaws
 pub mod Filled
-pub mod LineValues
+pub mod LevelParts
 pub mod OverlapLaws
-pub mod OwnRows
-pub mod RowParts

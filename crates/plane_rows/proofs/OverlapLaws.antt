@@ -34,6 +34,16 @@ module _ (lo hi k : ℕ) where
   pub not_among : (lo ≤ k → k < hi → ⊥) → T test → ⊥
   not_among never t = never (among-from t) (among-upto t)
 
+  -- where the test fails, k is none of them
+  pub none-among : (b : Bool) → b ≡ test → b ≡ false → lo ≤ k → k < hi → ⊥
+  none-among b is none u v = rw (← is, none) at among u v
+
+  -- and where it holds, k is one of them
+  pub some-among : (b : Bool) → b ≡ test → b ≡ true → (lo ≤ k) × (k < hi)
+  some-among b is all =
+      let t : T test = rw (← is, all) tt in
+      (among-from t, among-upto t)
+
 abbrev overlap : (first end other : ℕ) → first ≤ end → Overlap
 overlap first end other p = record { first = first; end = end; other = other; ordered = p }
 

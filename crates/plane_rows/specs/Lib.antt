@@ -1,4 +1,4 @@
-pub mod Lines
+pub mod Factors
+pub mod LevelRows
 pub mod Overlaps
-pub mod Parts
-pub mod RowLevels
+pub mod Views

@@ -1,15 +1,21 @@
-// Rows of planes 0, 1 and 2, whose values are ones and levels, as numbers of 16 bits: the picture's own row where all of it counts, else a copy among zeros. Two functions,
-// and not one that gives either: its answer would be lent for as long as both the picture and the buffer are, which the borrow checker does not cover in a caller.
+// Rows of a factor, whose values are ones and levels, as numbers of 16 bits: a part of columns that count is lent as the picture has it, and a whole row may be copied among
+// zeros.
 // For callers that have checked their inputs.
-ghost use Rattle.std.specs.Prelude.{◌≡◌, ◌≤◌, pos, length, get_or, IfSome};
+ghost use Rattle.std.specs.Prelude.{◌≡◌, ◌≤◌, length, IfSome};
 ghost use Rattle.numbers.specs.Grid.{tabulate};
-ghost use Rattle.spec_picture.specs.Picture.{plane_at, plane_value};
+ghost use Rattle.spec_picture.specs.Picture.{plane_at};
 ghost use Rattle.spec_picture.specs.Plane.{plane_number};
 ghost use Rattle.spec_picture.specs.Checked.{checked_source};
-ghost use Rattle.plane_rows.specs.RowLevels.{RowLevels};
+ghost use Rattle.plane_rows.specs.Factors.{on_factor};
+ghost use Rattle.plane_rows.specs.LevelRows.{Cells, AllCount};
 
-use crate::lines::{Line, counting_of, line_of};
-use spec_picture::{CheckedSource, Plane};
+use crate::factors::{Factor, Factors, factors_of};
+use crate::view::{View, view_of};
+use spec_picture::CheckedSource;
+
+// Rows of zeros and of ones, as long as the longest row of a picture.
+const ZEROS: [i16; 1024] = [0; 1024];
+const ONES: [i16; 1024] = [1; 1024];
 
 // Every number of out is the value. One function for this and `plane_values::fill` is no plainer: of a type parameter the library's fill asks that its clone
 // cannot fail and is the value.
@@ -23,53 +29,74 @@ pub fn fill(out: &mut [i16], value: i16)
 // The levels are copied.
 fn copy(levels: &[i16], out: &mut [i16])
     requires { length levels.now ≡ length out.old }
-    ensures { out.new ≡ tabulate (length out.old) (λ k. get_or levels.now k (pos 0)) }
+    ensures { out.new ≡ levels.now }
 {
     out.copy_from_slice(levels);
 }
 
-// The plane's values at the cells of a line: levels as they are, where `plane_values::values` widens them and has products too.
-#[tactic(auto, unfolding(spec_picture::specs::Picture::plane_value))]
-fn values(plane: Plane, line: Line<'_>, out: &mut [i16])
-    requires { (plane_number plane ≤ 2) × (length line.f.now ≡ length out.old) }
-    ensures { out.new ≡ tabulate (length out.old) (λ k. plane_value (plane_number plane) (get_or line.entry.f.now k (pos 0)) (get_or line.entry.g.now k (pos 0))) }
+// The columns from `start` up to `end` of a row, all of which count if the row does: as the picture has them, and zeros if it does not.
+#[tactic(auto, unfolding(spec_picture::specs::Size::size_legal))]
+pub fn part<'a>(
+    view: &View<'a>,
+    factor: Factor,
+    row: usize,
+    start: usize,
+    end: usize,
+) -> &'a [i16]
+    requires { AllCount view.now.columns start end }
+    ensures { Cells (plane_at (on_factor (checked_source view.now.source) factor)) row start end result.now }
 {
-    match plane {
-        Plane::One => fill(out, 1),
-        Plane::F => copy(line.f, out),
-        Plane::G => copy(line.g, out),
-        Plane::FSquared | Plane::GSquared | Plane::Product => unreachable!(),
+    if !view.has_row(row) {
+        return &ZEROS[..end - start];
+    }
+    let width = view.source.size.columns;
+    match factor {
+        Factor::One => &ONES[..end - start],
+        Factor::F => {
+            let first = row * width;
+            &view.source.f[first + start..first + end]
+        }
+        Factor::G => {
+            let row_of_g = view.rows.other + (row - view.rows.first);
+            let first = row_of_g * width + view.columns.other;
+            let before = view.columns.first;
+            &view.source.g[first + (start - before)..first + (end - before)]
+        }
     }
 }
 
-// A row of the plane is written to out, zeros where cells do not count: whole, where `planes::part`, of 64 bits, has parts of rows too. It has two callers, the table and
-// the slopes: not inlined into the second, the rows of a diamond take 1.04 times as long.
-#[inline(always)]
+// A whole row as the picture has it, where all columns count.
+pub fn own_row<'a>(view: &View<'a>, factor: Factor, row: usize) -> Option<&'a [i16]>
+    ensures { IfSome result (λ levels. Cells (plane_at (on_factor (checked_source view.now.source) factor)) row 0 view.now.source.size.columns levels.now) }
+{
+    let width = view.source.size.columns;
+    if 0 < view.columns.first || view.columns.end < width {
+        return None;
+    }
+    Some(part(view, factor, row, 0, width))
+}
+
+// A whole row is written to out, zeros where cells do not count.
+pub fn copied(view: &View<'_>, factor: Factor, row: usize, out: &mut [i16])
+    requires { length out.old ≡ view.now.source.size.columns }
+    ensures { out.new ≡ tabulate view.now.source.size.columns (plane_at (on_factor (checked_source view.now.source) factor) row) }
+{
+    let width = view.source.size.columns;
+    let first = view.columns.first;
+    let end = view.columns.end;
+    fill(&mut out[0..first], 0);
+    copy(part(view, factor, row, first, end), &mut out[first..end]);
+    fill(&mut out[end..width], 0);
+}
+
+// The same of a plane of ones or levels.
 pub fn copied_row(source: &CheckedSource<'_>, row: usize, out: &mut [i16])
     requires { (plane_number source.now.plane ≤ 2) × (length out.old ≡ source.now.size.columns) }
     ensures { out.new ≡ tabulate source.now.size.columns (plane_at (checked_source source.now) row) }
 {
-    let counting = counting_of(source);
-    let along = counting.columns;
-    fill(out, 0);
-    if let Some(line) = line_of(source, counting, row) {
-        values(source.plane, line, &mut out[along.first..along.end]);
-    }
-}
-
-// A row of the plane as a picture has it: where the plane is one of levels, and the whole row counts.
-pub fn own_row<'a>(source: &CheckedSource<'a>, row: usize) -> Option<&'a [i16]>
-    ensures { IfSome result (λ levels. RowLevels (checked_source source.now) row levels.now) }
-{
-    let counting = counting_of(source);
-    let along = counting.columns;
-    if along.len() < source.size.columns {
-        return None;
-    }
-    let line = line_of(source, counting, row)?;
-    match source.plane {
-        Plane::F => Some(line.f),
-        Plane::G => Some(line.g),
-        _ => None,
+    let view = view_of(source);
+    match factors_of(source.plane) {
+        Factors::Level(factor) => copied(&view, factor, row, out),
+        Factors::Square(_) | Factors::Product(..) => unreachable!(),
     }
 }

@@ -2,7 +2,7 @@
 // For callers that have checked their inputs.
 
 ghost use Rattle.std.specs.Prelude.{◌≡◌};
-ghost use Rattle.plane_rows.specs.Overlaps.{Overlapping, ClipAsked, Clipped};
+ghost use Rattle.plane_rows.specs.Overlaps.{Overlapping};
 
 mod overlap; // overlap.rt: the places that count along one side
 
@@ -31,27 +31,5 @@ pub fn overlap_of(n: usize, by: i32) -> Overlap
         first: 0,
         end: n - far,
         other: far,
-    }
-}
-
-// The places from lo up to hi among those that count.
-pub fn clipped(counting: Overlap, lo: usize, hi: usize) -> Overlap
-    requires { ClipAsked counting lo hi }
-    ensures { Clipped counting lo hi result }
-{
-    let first = counting.first;
-    let start = lo.max(first);
-    let end = hi.min(counting.end);
-    if end <= start {
-        return Overlap {
-            first: lo,
-            end: lo,
-            other: 0,
-        };
-    }
-    Overlap {
-        first: start,
-        end,
-        other: counting.other + (start - first),
     }
 }

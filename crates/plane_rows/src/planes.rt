@@ -1,42 +1,46 @@
-// A plane's row, or its first part: its values where cells count, and zeros elsewhere.
+// A row of any plane as numbers of 64 bits: the plane's values where cells count, and zeros elsewhere.
 // For callers that have checked their inputs.
 
-ghost use Rattle.std.specs.Prelude.{◌≡◌, ◌+◌, ◌≤◌, length};
+ghost use Rattle.std.specs.Prelude.{◌≡◌, ◌+◌, length};
 ghost use Rattle.numbers.specs.Grid.{tabulate};
 ghost use Rattle.spec_picture.specs.Picture.{plane_at};
-ghost use Rattle.spec_picture.specs.Plane.{plane_number};
 ghost use Rattle.spec_picture.specs.Checked.{checked_source};
-ghost use Rattle.plane_rows.specs.Parts.{padded_value};
+ghost use Rattle.plane_rows.specs.LevelRows.{Cells, AllCount};
 
-use crate::lines::{Counting, Line, counting_of, line_of};
-use crate::overlaps;
-use crate::plane_values::{fill, values};
-use spec_picture::{CheckedSource, Plane};
+use crate::factors::{Factors, factors_of};
+use crate::level_rows::part;
+use crate::plane_values::{fill, multiply, widen};
+use crate::view::{View, view_of};
+use spec_picture::CheckedSource;
 
-// The plane's values from place lo of out on, and zeros before and behind them. The place is a number, since out is filled on both sides of it.
-fn padded(plane: Plane, line: Line<'_>, lo: usize, out: &mut [i64])
-    requires { lo + length line.f.now ≤ length out.old }
-    ensures { out.new ≡ tabulate (length out.old) (padded_value (plane_number plane) line.entry.f.now line.entry.g.now lo) }
+// The columns from `start` up to `end` of a row, all of which count if the row does.
+fn values(view: &View<'_>, row: usize, start: usize, end: usize, out: &mut [i64])
+    requires { AllCount view.now.columns start end × (start + length out.old ≡ end) }
+    ensures { Cells (plane_at (checked_source view.now.source)) row start end out.new }
 {
-    let hi = lo + line.f.len();
-    fill(&mut out[..lo], 0);
-    fill(&mut out[hi..], 0);
-    values(plane, line, &mut out[lo..hi]);
+    match factors_of(view.source.plane) {
+        Factors::Level(q) => widen(part(view, q, row, start, end), out),
+        Factors::Square(q) => {
+            let levels = part(view, q, row, start, end);
+            multiply(levels, levels, out);
+        }
+        Factors::Product(p, q) => {
+            let levels = part(view, p, row, start, end);
+            multiply(levels, part(view, q, row, start, end), out);
+        }
+    }
 }
 
-// The cells (row, 0), (row, 1), .. of the plane, as many as out has room for.
-pub fn part(source: &CheckedSource<'_>, row: usize, out: &mut [i64])
-    requires { length out.old ≤ source.now.size.columns }
-    ensures { out.new ≡ tabulate (length out.old) (plane_at (checked_source source.now) row) }
+// Row `row` of the plane.
+pub fn plane_row(source: &CheckedSource<'_>, row: usize, out: &mut [i64])
+    requires { length out.old ≡ source.now.size.columns }
+    ensures { out.new ≡ tabulate source.now.size.columns (plane_at (checked_source source.now) row) }
 {
-    let counting = counting_of(source);
-    let columns = overlaps::clipped(counting.columns, 0, out.len());
-    let part = Counting {
-        rows: counting.rows,
-        columns,
-    };
-    match line_of(source, part, row) {
-        Some(line) => padded(source.plane, line, columns.first, out),
-        None => fill(out, 0),
-    }
+    let view = view_of(source);
+    let width = source.size.columns;
+    let first = view.columns.first;
+    let end = view.columns.end;
+    fill(&mut out[0..first], 0);
+    values(&view, row, first, end, &mut out[first..end]);
+    fill(&mut out[end..width], 0);
 }

@@ -1,2 +1,3 @@
 pub mod Adding
-pub mod Ranges
+pub mod Entering
+pub mod Sliding

@@ -4,8 +4,7 @@
 ghost use Rattle.std.specs.Prelude.{◌≡◌, ℕ, ◌<◌, pos, ◌+ℤ◌, ◌-ℤ◌, ◌*ℤ◌, length, get_or};
 ghost use Rattle.numbers.specs.Grid.{tabulate};
 ghost use Rattle.numbers.specs.Wrap.{wrap};
-ghost use Rattle.plane_rows.specs.Lines.{ValuesAsked};
-ghost use Rattle.row_loops.specs.Added.{AddedEach};
+ghost use Rattle.row_loops.specs.Added.{AddedEach, ProductsAsked};
 
 use arithmetic::{machine, wrapping};
 
@@ -37,7 +36,7 @@ pub fn exchange_levels(enter: &[i16], leave: &[i16], sums: &mut [i64])
 
 // Products a·b of levels enter, and products c·d leave. A loop of its own: `add_each` with a closure took 1.15 times as long here.
 pub fn exchange_products(a: &[i16], b: &[i16], c: &[i16], d: &[i16], sums: &mut [i64])
-    requires { ValuesAsked a.now b.now c.now d.now sums.old }
+    requires { ProductsAsked a.now b.now c.now d.now sums.old }
     ensures { sums.new ≡ tabulate (length sums.old) (λ k. wrap (get_or sums.old k (pos 0) +ℤ (get_or a.now k (pos 0) *ℤ get_or b.now k (pos 0) -ℤ get_or c.now k (pos 0) *ℤ get_or d.now k (pos 0)))) }
 {
     for k in 0..sums.len() {

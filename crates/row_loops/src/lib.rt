@@ -2,6 +2,5 @@
 #![tactic(auto)]
 
 pub mod exchange_loops; // exchange_loops.rt: one loop for each kind of value
-pub mod exchanges; // exchanges.rt: the values of two rows, one in and one out
-pub mod change; // change.rt: one row of a plane in and one out
+pub mod enter_and_leave; // enter_and_leave.rt: one row of a plane in and one out
 pub mod across; // across.rt: the sliding sum across a row

@@ -41,10 +41,11 @@ module _ (P : ℕ → ℕ → ℤ) (columns : ℕ) where
           ∙ wrap-add (sum_to m (λ k. P k j)) (P m j)
           ∙ ap wrap (sym (sum-suc m (λ k. P k j)) ∙ ap (λ (q : ℕ). sum_to q (λ k. P k j)) (sym (add-one m)))
 
-  pub columns-more : (m : ℕ) (work next : List ℤ) → work ≡ columns_to P columns m → next ≡ tabulate columns (λ j. wrap (at work j +ℤ (P m j -ℤ pos 0))) → next ≡ columns_to P columns (m + 1)
-  columns-more m work next w o =
+  -- and the cells of a row that are 0 are taken away
+  pub columns-more : (m none : ℕ) (work next : List ℤ) → ((j : ℕ) → P none j ≡ pos 0) → work ≡ columns_to P columns m → next ≡ tabulate columns (λ j. wrap (at work j +ℤ (P m j -ℤ P none j))) → next ≡ columns_to P columns (m + 1)
+  columns-more m none work next no_cell w o =
       columns-plus m work next w
-      (o ∙ tabulate-cong columns (λ j. wrap (at work j +ℤ (P m j -ℤ pos 0))) (λ j. wrap (at work j +ℤ P m j)) (λ j j<. ap (λ (x : ℤ). wrap (at work j +ℤ x)) (+ℤ_idr (P m j))))
+      (o ∙ tabulate-cong columns (λ j. wrap (at work j +ℤ (P m j -ℤ P none j))) (λ j. wrap (at work j +ℤ P m j)) (λ j j<. ap (λ (x : ℤ). wrap (at work j +ℤ x)) (ap (λ (z : ℤ). P m j -ℤ z) (no_cell j) ∙ +ℤ_idr (P m j))))
 
 -- the rows at most r from row 0
 from_0 : (n r : ℕ) (f : ℕ → ℤ) → sum_to n (λ k. pick (leb (dist 0 k) r) (f k)) ≡ sum_to (min (suc (0 + r)) n) f

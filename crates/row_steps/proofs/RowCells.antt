@@ -9,10 +9,9 @@ use Rattle.numbers.specs.Grid.{tabulate}
 use Rattle.numbers.specs.Wrap.{wrap}
 use Rattle.numbers.proofs.Grids.{tabulate-cong, get_d_tabulate}
 use Rattle.numbers.proofs.Writes.{at}
-use Rattle.std.specs.Prelude.{Option, None, Some, SomeIff}
+use Rattle.std.specs.Prelude.{Option, None, Some, SomeIff, unwrap_or}
 use Rattle.spec_picture.specs.Picture.{Source, plane_at}
 use Rattle.spec_picture.proofs.Planes.{plane-past}
-use Rattle.plane_rows.specs.Lines.{row_if_any}
 use Rattle.spec_rows.specs.Rows.{cell_below, cell_above, enter_leave}
 use Rattle.spec_rows.proofs.Cells.{cell_below_lem, cell-above, none_above}
 
@@ -26,16 +25,15 @@ module _ (x : Source) (i d : ℕ) where
       ap (λ (m : ℕ). P m j) e ∙ sym (cell_below_lem x.size P (plane-past x) (suc i) d j)
 
   -- the row d rows above row i leaves; there is none where i is below d
-  above : (leave : Option ℕ) → SomeIff leave (d ≤ i) (i - d) → (j : ℕ) → row_if_any x leave j ≡ cell_above x.size P i d j
-  unfolding row_if_any
-  above None h j = sym (none_above x.size P i d j (omega (arith, h)))
-  above (Some m) h j = ap (λ (m : ℕ). P m j) h.1 ∙ sym (cell-above x.size P (plane-past x) i d j h.0)
+  above : (row : Option ℕ) → SomeIff row (d ≤ i) (i - d) → (leave : ℕ) → leave ≡ unwrap_or row x.size.rows → (j : ℕ) → P leave j ≡ cell_above x.size P i d j
+  above None h leave e j = ap (λ (m : ℕ). P m j) e ∙ plane-past x x.size.rows j (omega arith) ∙ sym (none_above x.size P i d j (omega (arith, h)))
+  above (Some m) h leave e j = ap (λ (m : ℕ). P m j) (e ∙ h.1) ∙ sym (cell-above x.size P (plane-past x) i d j h.0)
 
-  pub row-gained : (leave : Option ℕ) → SomeIff leave (d ≤ i) (i - d) → (sums out : List ℤ) →
-      out ≡ tabulate x.size.columns (λ j. wrap (at sums j +ℤ (P (i + 1 + d) j -ℤ row_if_any x leave j))) → out ≡ tabulate x.size.columns (λ j. wrap (at sums j +ℤ enter_leave x.size P i d j))
+  pub row-gained : (row : Option ℕ) → SomeIff row (d ≤ i) (i - d) → (leave : ℕ) → leave ≡ unwrap_or row x.size.rows → (sums out : List ℤ) →
+      out ≡ tabulate x.size.columns (λ j. wrap (at sums j +ℤ (P (i + 1 + d) j -ℤ P leave j))) → out ≡ tabulate x.size.columns (λ j. wrap (at sums j +ℤ enter_leave x.size P i d j))
   unfolding enter_leave
-  row-gained leave h sums out o =
-      o ∙ tabulate-cong x.size.columns _ _ (λ j j<. ap (λ (y : ℤ). wrap (at sums j +ℤ y)) (ap₂ (λ (y z : ℤ). y -ℤ z) (below j) (above leave h j)))
+  row-gained row h leave e sums out o =
+      o ∙ tabulate-cong x.size.columns _ _ (λ j j<. ap (λ (y : ℤ). wrap (at sums j +ℤ y)) (ap₂ (λ (y z : ℤ). y -ℤ z) (below j) (above row h leave e j)))
 
 -- added to zeros it stands alone
 pub gain-alone : (columns n : ℕ) (F : ℕ → ℤ) (zeros out : List ℤ) → n ≡ columns → zeros ≡ tabulate n (λ k. pos 0) → out ≡ tabulate columns (λ j. wrap (at zeros j +ℤ F j)) → out ≡ tabulate columns (λ j. wrap (F j))

@@ -31,7 +31,7 @@ fn reaching(
     ensures { work.new ≡ tabulate inputs.now.source.size.columns (λ j. wrap (get_or work.old j (pos 0) +ℤ sum_to inputs.now.source.size.columns (λ n. pick (leb (column_gap inputs.now.source.size j n) (reach (shape_of (given inputs.now.window)) m)) (plane_at (checked_source inputs.now.source) m n)))) }
 {
     let k = reaches::reach(inputs.window, m);
-    planes::part(&inputs.source, m, cells);
+    planes::plane_row(&inputs.source, m, cells);
     across::across(cells, k, row);
     step::add(work, row);
 }

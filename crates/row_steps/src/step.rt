@@ -8,16 +8,18 @@ ghost use Rattle.spec_rows.specs.Rows.{enter_leave};
 ghost use Rattle.row_steps.specs.Asked.{RowAsked};
 
 use plane_rows::plane_values;
-use row_loops::change;
+use row_loops::enter_and_leave::enter_and_leave;
 use row_loops::exchange_loops::add_each;
 use spec_picture::CheckedSource;
 
-// From row i to i+1, at half height d: the row d rows below enters the sums, and the row d rows above leaves them.
+// From row i to i+1, at half height d: the row d rows below enters the sums, and the row d rows above, if there is one, leaves them. Past the picture's last row no cell
+// counts, so that row leaves in the place of one that is not there.
 pub fn add_gain(source: &CheckedSource<'_>, i: usize, d: usize, sums: &mut [i64])
     requires { RowAsked source.now.size i d sums.old }
     ensures { sums.new ≡ tabulate source.now.size.columns (λ j. wrap (get_or sums.old j (pos 0) +ℤ enter_leave source.now.size (plane_at (checked_source source.now)) i d j)) }
 {
-    change::exchange(source, i + 1 + d, i.checked_sub(d), sums);
+    let leave = i.checked_sub(d).unwrap_or(source.size.rows);
+    enter_and_leave(source, i + 1 + d, leave, sums);
 }
 
 // The same alone: in `row` the cells that enter less those that leave.

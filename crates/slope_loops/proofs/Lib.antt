@@ -1,5 +1,5 @@
 pub mod Examples
-pub mod Loops
+pub mod LoopLaws
 pub mod Moves
 pub mod Numbers
 pub mod Parts

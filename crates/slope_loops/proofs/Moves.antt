@@ -11,7 +11,8 @@ use Rattle.numbers.specs.Sum.{sum_to, pick}
 use Rattle.numbers.proofs.Linear.{any, sums, ring}
 use Rattle.numbers.proofs.Magnitudes.{size-sub}
 use Rattle.numbers.proofs.Sums.{sum-suc, sum-cong, sum-none, sum-sub, sum_bound, pick_yes, pick_no, pick-bound}
-use Rattle.slope_loops.specs.Slopes.{padded, rising, falling}
+use Rattle.slope_loops.specs.declared.padding.TheConstants.{ABOVE, MARGIN}
+use Rattle.slope_loops.specs.Slopes.{padded, edge_slopes, on_right, on_left, rising, falling}
 
 -- ---- a sum whose terms move on by one
 sum-on : (n : ℕ) (f : ℕ → ℤ) → sum_to n (λ t. f (suc t)) ≡ sum_to n f +ℤ (f n -ℤ f 0)
@@ -30,76 +31,57 @@ both-move n f g = rw (sum-on n f, sum-on n g) (move (sum_to n f) (sum_to n g) (f
     move : (s r a b c d : ℤ) → (s +ℤ (a -ℤ b)) -ℤ r ≡ (s -ℤ (r +ℤ (d -ℤ c))) +ℤ (a -ℤ b) -ℤ (c -ℤ d)
     move s r a b c d = ring (search (sums, any s, any r, any a, any b, any c, any d) depth 16) (omega arith)
 
-module _ (Q : ℕ → ℕ → ℤ) (w h : ℕ) (low : h ≤ w) where
-  cell : {y y' x x' : ℕ} → y ≡ y' → x ≡ x' → Q y x ≡ Q y' x'
+-- ---- a slope of each edge
+module _ (Q : ℕ → ℕ → ℤ) where
+  cell : {y z x k : ℕ} → y ≡ z → x ≡ k → Q y x ≡ Q z k
   cell p q = ap₂ Q p q
 
-  -- ---- from row to row
-  -- the rising slopes of row y + 1 are those of row y one column further right
-  pub rising_step : (y x : ℕ) → w ≤ x → h ≤ y + 1 →
-      rising Q w h (y + 1) x ≡ rising Q w h y (x + 1) +ℤ (Q (y + 1 + h) (x + 1 + (w - h)) -ℤ Q (y + 1) (x + 1 + w)) -ℤ (Q (y + 1) (x - w) -ℤ Q (y + 1 - h) (x - (w - h)))
-  unfolding rising
-  rising_step y x wide deep =
-      let f : ℕ → ℤ = λ t. Q (y + 1 + t) (x + 1 + w - t) in
-      let g : ℕ → ℤ = λ t. Q (y + 1 - t) (x + t - w) in
-      sum-cong h (λ t. Q (y + 1 + 1 + t) (x + w - t) -ℤ Q (y + 1 - t) (x + t - w)) (λ t. f (suc t) -ℤ g t)
-      (λ t t<. ap (λ (v : ℤ). v -ℤ g t) (cell (omega arith) (omega arith)))
-      ∙ sum-sub h (λ t. f (suc t)) g
-      ∙ both-move h f g
-      ∙ ap₂ (λ (u v : ℤ). u +ℤ (f h -ℤ f 0) -ℤ (g 0 -ℤ v))
-      (sym (sum-cong h (λ t. Q (y + 1 + t) (x + 1 + w - t) -ℤ Q (y - t) (x + 1 + t - w)) (λ t. f t -ℤ g (suc t))
-      (λ t t<. ap (λ (v : ℤ). f t -ℤ v) (cell (omega arith) (omega arith)))
-      ∙ sum-sub h f (λ t. g (suc t))))
-      (cell (omega arith) (omega arith))
-      ∙ ap₂ (λ (u v : ℤ). sum_to h (λ t. Q (y + 1 + t) (x + 1 + w - t) -ℤ Q (y - t) (x + 1 + t - w)) +ℤ u -ℤ (v -ℤ Q (y + 1 - h) (x - (w - h))))
-      (ap₂ (λ (u v : ℤ). u -ℤ v) (cell (omega arith) (omega arith)) (cell (omega arith) (omega arith))) (cell (omega arith) (omega arith))
+  module _ (lower upper : ℕ → ℕ) where
+    pub slope_none : (y : ℕ) → edge_slopes Q lower upper 0 y ≡ pos 0
+    unfolding edge_slopes sum_to
+    slope_none y = refl
 
-  -- the falling slopes of row y + 1 are those of row y one column further left
-  pub falling-step : (y x : ℕ) → w ≤ x → h ≤ y + 1 →
-      falling Q w h (y + 1) (x + 1) ≡ falling Q w h y x +ℤ (Q (y + 1 + h) (x - (w - h)) -ℤ Q (y + 1) (x - w)) -ℤ (Q (y + 1) (x + 1 + w) -ℤ Q (y + 1 - h) (x + 1 + (w - h)))
-  unfolding falling
-  falling-step y x wide deep =
-      let f : ℕ → ℤ = λ t. Q (y + 1 + t) (x + t - w) in
-      let g : ℕ → ℤ = λ t. Q (y + 1 - t) (x + 1 + w - t) in
-      sum-cong h (λ t. Q (y + 1 + 1 + t) (x + 1 + t - w) -ℤ Q (y + 1 - t) (x + 1 + w - t)) (λ t. f (suc t) -ℤ g t)
-      (λ t t<. ap (λ (v : ℤ). v -ℤ g t) (cell (omega arith) (omega arith)))
-      ∙ sum-sub h (λ t. f (suc t)) g
-      ∙ both-move h f g
-      ∙ ap₂ (λ (u v : ℤ). u +ℤ (f h -ℤ f 0) -ℤ (g 0 -ℤ v))
-      (sym (sum-cong h (λ t. Q (y + 1 + t) (x + t - w) -ℤ Q (y - t) (x + w - t)) (λ t. f t -ℤ g (suc t))
-      (λ t t<. ap (λ (v : ℤ). f t -ℤ v) (cell (omega arith) (omega arith)))
-      ∙ sum-sub h f (λ t. g (suc t))))
-      (cell (omega arith) (omega arith))
-      ∙ ap₂ (λ (u v : ℤ). sum_to h (λ t. Q (y + 1 + t) (x + t - w) -ℤ Q (y - t) (x + w - t)) +ℤ u -ℤ (v -ℤ Q (y + 1 - h) (x + 1 + (w - h))))
-      (ap₂ (λ (u v : ℤ). u -ℤ v) (cell (omega arith) (omega arith)) (cell (omega arith) (omega arith))) (cell (omega arith) (omega arith))
+    -- a cell more of each edge
+    pub slope-more : (n y : ℕ) → edge_slopes Q lower upper (n + 1) y ≡ edge_slopes Q lower upper n y +ℤ (Q (y + 1 + n) (lower n) -ℤ Q (y - n) (upper n))
+    unfolding edge_slopes
+    slope-more n y = ap (λ (m : ℕ). sum_to m (λ t. Q (y + 1 + t) (lower t) -ℤ Q (y - t) (upper t))) (add-one n) ∙ sum-suc n _
 
--- ---- cell by cell
-module _ (Q : ℕ → ℕ → ℤ) (w : ℕ) where
-  pub rising_none : (y x : ℕ) → rising Q w 0 y x ≡ pos 0
-  unfolding rising sum_to
-  rising_none y x = refl
+    -- n cells enter and n leave
+    pub slope_bound : (M : ℕ) → ((y x : ℕ) → nat_abs (Q y x) ≤ M) → (n y : ℕ) → nat_abs (edge_slopes Q lower upper n y) ≤ n * (2 * M)
+    unfolding edge_slopes
+    slope_bound M small n y = sum_bound n (2 * M) _ (λ t t<. omega (arith, size-sub (Q (y + 1 + t) (lower t)) (Q (y - t) (upper t)), small (y + 1 + t) (lower t), small (y - t) (upper t)))
 
-  pub falling-none : (y x : ℕ) → falling Q w 0 y x ≡ pos 0
-  unfolding falling sum_to
-  falling-none y x = refl
+    -- all of them are 0
+    pub slope-zero : (n y : ℕ) → ((m t : ℕ) → t < n → Q m (lower t) ≡ pos 0) → ((m t : ℕ) → t < n → Q m (upper t) ≡ pos 0) → edge_slopes Q lower upper n y ≡ pos 0
+    unfolding edge_slopes
+    slope-zero n y f g = sum-none n _ (λ t t<. ap₂ ◌-ℤ◌ (f (y + 1 + t) t t<) (g (y - t) t t<))
 
-  pub rising-more : (n y x : ℕ) → rising Q w (n + 1) y x ≡ rising Q w n y x +ℤ (Q (y + 1 + n) (x + w - n) -ℤ Q (y - n) (x + n - w))
-  unfolding rising
-  rising-more n y x = ap (λ (m : ℕ). sum_to m (λ t. Q (y + 1 + t) (x + w - t) -ℤ Q (y - t) (x + t - w))) (add-one n) ∙ sum-suc n _
+    -- From row y to the next: where the lower edge's cells are those a row further on, and the upper edge's those a row further back, each has a new cell and one is gone.
+    pub slope-step : (lower_next upper_next : ℕ → ℕ) (n y : ℕ) → n ≤ y + 1 → ((t : ℕ) → t < n → lower_next t ≡ lower (suc t)) → ((t : ℕ) → t < n → upper t ≡ upper_next (suc t)) →
+        edge_slopes Q lower_next upper_next n (y + 1) ≡ edge_slopes Q lower upper n y +ℤ (Q (y + 1 + n) (lower n) -ℤ Q (y + 1) (lower 0)) -ℤ (Q (y + 1) (upper_next 0) -ℤ Q (y + 1 - n) (upper_next n))
+    unfolding edge_slopes
+    slope-step lower_next upper_next n y deep on back =
+        let f : ℕ → ℤ = λ t. Q (y + 1 + t) (lower t) in
+        let g : ℕ → ℤ = λ t. Q (y + 1 - t) (upper_next t) in
+        sum-cong n (λ t. Q (y + 1 + 1 + t) (lower_next t) -ℤ Q (y + 1 - t) (upper_next t)) (λ t. f (suc t) -ℤ g t) (λ t t<. ap (λ (v : ℤ). v -ℤ g t) (cell (omega arith) (on t t<)))
+        ∙ sum-sub n (λ t. f (suc t)) g
+        ∙ both-move n f g
+        ∙ ap₂ (λ (u v : ℤ). u +ℤ (f n -ℤ v) -ℤ (g 0 -ℤ g n))
+        (sym (sum-cong n (λ t. Q (y + 1 + t) (lower t) -ℤ Q (y - t) (upper t)) (λ t. f t -ℤ g (suc t)) (λ t t<. ap (λ (v : ℤ). f t -ℤ v) (cell (omega arith) (back t t<)))
+        ∙ sum-sub n f (λ t. g (suc t))))
+        (cell (omega arith) refl)
+        ∙ ap (λ (v : ℤ). sum_to n (λ t. Q (y + 1 + t) (lower t) -ℤ Q (y - t) (upper t)) +ℤ (f n -ℤ Q (y + 1) (lower 0)) -ℤ (v -ℤ g n)) (cell (omega arith) refl)
 
-  pub falling-more : (n y x : ℕ) → falling Q w (n + 1) y x ≡ falling Q w n y x +ℤ (Q (y + 1 + n) (x + n - w) -ℤ Q (y - n) (x + w - n))
-  unfolding falling
-  falling-more n y x = ap (λ (m : ℕ). sum_to m (λ t. Q (y + 1 + t) (x + t - w) -ℤ Q (y - t) (x + w - t))) (add-one n) ∙ sum-suc n _
+  module _ (w h : ℕ) (low : h ≤ w) where
+    -- the rising slopes of row y + 1 are those of row y one column further right
+    pub rising_step : (y x : ℕ) → w ≤ x → h ≤ y + 1 →
+        rising Q w h (y + 1) x ≡ rising Q w h y (x + 1) +ℤ (Q (y + 1 + h) (on_right w (x + 1) h) -ℤ Q (y + 1) (on_right w (x + 1) 0)) -ℤ (Q (y + 1) (on_left w x 0) -ℤ Q (y + 1 - h) (on_left w x h))
+    rising_step y x wide deep = slope-step (on_right w (x + 1)) (on_left w (x + 1)) (on_right w x) (on_left w x) h y deep (λ t t<. omega arith) (λ t t<. omega arith)
 
-  -- n cells enter and n leave
-  module _ (M : ℕ) (small : (y x : ℕ) → nat_abs (Q y x) ≤ M) where
-    pub rising-bound : (n y x : ℕ) → nat_abs (rising Q w n y x) ≤ n * (2 * M)
-    unfolding rising
-    rising-bound n y x = sum_bound n (2 * M) _ (λ t t<. omega (arith, size-sub (Q (y + 1 + t) (x + w - t)) (Q (y - t) (x + t - w)), small (y + 1 + t) (x + w - t), small (y - t) (x + t - w)))
-
-    pub falling_bound : (n y x : ℕ) → nat_abs (falling Q w n y x) ≤ n * (2 * M)
-    unfolding falling
-    falling_bound n y x = sum_bound n (2 * M) _ (λ t t<. omega (arith, size-sub (Q (y + 1 + t) (x + t - w)) (Q (y - t) (x + w - t)), small (y + 1 + t) (x + t - w), small (y - t) (x + w - t)))
+    -- the falling slopes of row y + 1 are those of row y one column further left
+    pub falling-step : (y x : ℕ) → w ≤ x → h ≤ y + 1 →
+        falling Q w h (y + 1) (x + 1) ≡ falling Q w h y x +ℤ (Q (y + 1 + h) (on_left w x h) -ℤ Q (y + 1) (on_left w x 0)) -ℤ (Q (y + 1) (on_right w (x + 1) 0) -ℤ Q (y + 1 - h) (on_right w (x + 1) h))
+    falling-step y x wide deep = slope-step (on_left w x) (on_right w x) (on_left w (x + 1)) (on_right w (x + 1)) h y deep (λ t t<. omega arith) (λ t t<. omega arith)
 
 -- ---- a plane among zeros
 pub pick-zero : (b : Bool) → pick b (pos 0) ≡ pos 0
@@ -111,35 +93,33 @@ module _ (P : ℕ → ℕ → ℤ) where
   pub padded-bound : (M : ℕ) → ((m n : ℕ) → nat_abs (P m n) ≤ M) → (y x : ℕ) → nat_abs (padded P y x) ≤ M
   unfolding padded
   padded-bound M small y x =
-      omega (arith, pick-bound (leb 128 y) (pick (leb 256 x) (P (y - 128) (x - 256))), pick-bound (leb 256 x) (P (y - 128) (x - 256)), small (y - 128) (x - 256))
+      omega (arith, pick-bound (leb ABOVE y) (pick (leb MARGIN x) (P (y - ABOVE) (x - MARGIN))), pick-bound (leb MARGIN x) (P (y - ABOVE) (x - MARGIN)), small (y - ABOVE) (x - MARGIN))
 
-  pub padded-cell : (m n : ℕ) → padded P (128 + m) (256 + n) ≡ P m n
+  pub padded-cell : (m n : ℕ) → padded P (ABOVE + m) (MARGIN + n) ≡ P m n
   unfolding padded
   padded-cell m n =
-      let row : 128 + m - 128 ≡ m = omega arith in
-      let column : 256 + n - 256 ≡ n = omega arith in
-      pick_yes (leb 128 (128 + m)) (pick (leb 256 (256 + n)) (P (128 + m - 128) (256 + n - 256))) (le→leb 128 (128 + m) (omega arith))
-      ∙ pick_yes (leb 256 (256 + n)) (P (128 + m - 128) (256 + n - 256)) (le→leb 256 (256 + n) (omega arith))
+      let row : ABOVE + m - ABOVE ≡ m = omega arith in
+      let column : MARGIN + n - MARGIN ≡ n = omega arith in
+      pick_yes (leb ABOVE (ABOVE + m)) (pick (leb MARGIN (MARGIN + n)) (P (ABOVE + m - ABOVE) (MARGIN + n - MARGIN))) (le→leb ABOVE (ABOVE + m) (omega arith))
+      ∙ pick_yes (leb MARGIN (MARGIN + n)) (P (ABOVE + m - ABOVE) (MARGIN + n - MARGIN)) (le→leb MARGIN (MARGIN + n) (omega arith))
       ∙ ap₂ P row column
 
-  pub padded-above : (y x : ℕ) → y < 128 → padded P y x ≡ pos 0
+  pub padded-above : (y x : ℕ) → y < ABOVE → padded P y x ≡ pos 0
   unfolding padded
-  padded-above y x h = pick_no (leb 128 y) (pick (leb 256 x) (P (y - 128) (x - 256))) (λ t. omega (arith, leb→le 128 y t))
+  padded-above y x h = pick_no (leb ABOVE y) (pick (leb MARGIN x) (P (y - ABOVE) (x - MARGIN))) (λ t. omega (arith, leb→le ABOVE y t))
 
-  pub padded-left : (y x : ℕ) → x < 256 → padded P y x ≡ pos 0
+  pub padded-left : (y x : ℕ) → x < MARGIN → padded P y x ≡ pos 0
   unfolding padded
-  padded-left y x h = ap (pick (leb 128 y)) (pick_no (leb 256 x) (P (y - 128) (x - 256)) (λ t. omega (arith, leb→le 256 x t))) ∙ pick-zero (leb 128 y)
+  padded-left y x h = ap (pick (leb ABOVE y)) (pick_no (leb MARGIN x) (P (y - ABOVE) (x - MARGIN)) (λ t. omega (arith, leb→le MARGIN x t))) ∙ pick-zero (leb ABOVE y)
 
   -- the slopes that rise reach nothing far on the right, and those that fall nothing far on the left
-  pub falling-left : (w n y x : ℕ) → n ≤ w → x + w < 256 → falling (padded P) w n y x ≡ pos 0
-  unfolding falling
-  falling-left w n y x few far = sum-none n _ (λ t t<. ap₂ ◌-ℤ◌ (padded-left (y + 1 + t) (x + t - w) (omega arith)) (padded-left (y - t) (x + w - t) (omega arith)))
+  pub falling-left : (w n y x : ℕ) → n ≤ w → x + w < MARGIN → falling (padded P) w n y x ≡ pos 0
+  falling-left w n y x few far = slope-zero (padded P) (on_left w x) (on_right w x) n y (λ m t t<. padded-left m (on_left w x t) (omega arith)) (λ m t t<. padded-left m (on_right w x t) (omega arith))
 
   module _ (columns : ℕ) (beside : (m n : ℕ) → columns ≤ n → P m n ≡ pos 0) where
-    pub padded-right : (y x : ℕ) → 256 + columns ≤ x → padded P y x ≡ pos 0
+    pub padded-right : (y x : ℕ) → MARGIN + columns ≤ x → padded P y x ≡ pos 0
     unfolding padded
-    padded-right y x h = ap (λ (v : ℤ). pick (leb 128 y) (pick (leb 256 x) v)) (beside (y - 128) (x - 256) (omega arith)) ∙ ap (pick (leb 128 y)) (pick-zero (leb 256 x)) ∙ pick-zero (leb 128 y)
+    padded-right y x h = ap (λ (v : ℤ). pick (leb ABOVE y) (pick (leb MARGIN x) v)) (beside (y - ABOVE) (x - MARGIN) (omega arith)) ∙ ap (pick (leb ABOVE y)) (pick-zero (leb MARGIN x)) ∙ pick-zero (leb ABOVE y)
 
-    pub rising-right : (w n y x : ℕ) → n ≤ w → 256 + columns + w ≤ x → rising (padded P) w n y x ≡ pos 0
-    unfolding rising
-    rising-right w n y x few far = sum-none n _ (λ t t<. ap₂ ◌-ℤ◌ (padded-right (y + 1 + t) (x + w - t) (omega arith)) (padded-right (y - t) (x + t - w) (omega arith)))
+    pub rising-right : (w n y x : ℕ) → n ≤ w → MARGIN + columns + w ≤ x → rising (padded P) w n y x ≡ pos 0
+    rising-right w n y x few far = slope-zero (padded P) (on_right w x) (on_left w x) n y (λ m t t<. padded-right m (on_right w x t) (omega arith)) (λ m t t<. padded-right m (on_left w x t) (omega arith))

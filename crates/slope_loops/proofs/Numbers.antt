@@ -9,8 +9,9 @@ use lib.IntN.{ℤ, pos, ◌+ℤ◌, ◌-ℤ◌}
 use lib.Signed.{mag}
 use Rattle.std.proofs.lemmas.List.{get_or-map, map-set}
 use Rattle.numbers.proofs.Writes.{at}
-use Rattle.slope_loops.specs.Leans.{Moved}
-use Rattle.slope_loops.proofs.Loops.{moved-next, moved_more, mag-add, mag-sub}
+use Rattle.slope_loops.specs.declared.padding.TheConstants.{ROW_LENGTH}
+use Rattle.slope_loops.specs.Loops.{Moved}
+use Rattle.slope_loops.proofs.LoopLaws.{moved-next, moved_more, mag-add, mag-sub}
 
 module _ {X : Type 0} (f : X → ℤ) where
   -- what a number that was read stands for
@@ -22,7 +23,7 @@ module _ {X : Type 0} (f : X → ℤ) where
     pub next_read : (d : X) → n + s < length now → f (get_or now (n + s) d) ≡ at (map f old) (n + s)
     next_read d h = read now (n + s) d h ∙ moved-next u
 
-    pub next_moved : (v : X) → n + s < 1536 → f v ≡ F n → Moved F (map f old) (map f (set now (n + s) v)) s (n + 1)
+    pub next_moved : (v : X) → n + s < ROW_LENGTH → f v ≡ F n → Moved F (map f old) (map f (set now (n + s) v)) s (n + 1)
     next_moved v h e = rw (map-set f now (n + s) v) (moved_more u (f v) h e)
 
 -- how large a sum is when a number has come in and one has gone

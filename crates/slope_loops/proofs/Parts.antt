@@ -18,7 +18,8 @@ use Rattle.spec_rows.specs.Rows.{cell_below, cell_above, enter_leave, work_chang
 use Rattle.spec_rows.specs.Distances.{at_distance}
 use Rattle.spec_rows.proofs.Cells.{cell_below_lem, cell-above, none_above}
 use Rattle.spec_rows.proofs.Distances.{at-distance-some, near-0, near_last}
-use Rattle.slope_loops.specs.Slopes.{padded, rising, falling, edges_change}
+use Rattle.slope_loops.specs.declared.padding.TheConstants.{ABOVE, MARGIN}
+use Rattle.slope_loops.specs.Slopes.{padded, edge_slopes, rising, falling, edges_change}
 use Rattle.slope_loops.proofs.Moves.{padded-cell, padded-above, padded-left, padded-right}
 
 module _ (z : Size) (P : ℕ → ℕ → ℤ) (past : (m n : ℕ) → z.rows ≤ m → P m n ≡ pos 0) (beside : (m n : ℕ) → z.columns ≤ n → P m n ≡ pos 0) where
@@ -26,43 +27,43 @@ module _ (z : Size) (P : ℕ → ℕ → ℤ) (past : (m n : ℕ) → z.rows ≤
   Q = padded P
 
   -- a cell that enters and one that leaves, among zeros
-  enter : (i d n : ℕ) → cell_below z P (suc i) d n ≡ Q (128 + i + 1 + d) (256 + n)
+  enter : (i d n : ℕ) → cell_below z P (suc i) d n ≡ Q (ABOVE + i + 1 + d) (MARGIN + n)
   enter i d n =
-      let e : 128 + (suc i + d) ≡ 128 + i + 1 + d = omega arith in
-      cell_below_lem z P past (suc i) d n ∙ sym (padded-cell P (suc i + d) n) ∙ ap (λ (y : ℕ). Q y (256 + n)) e
+      let e : ABOVE + (suc i + d) ≡ ABOVE + i + 1 + d = omega arith in
+      cell_below_lem z P past (suc i) d n ∙ sym (padded-cell P (suc i + d) n) ∙ ap (λ (y : ℕ). Q y (MARGIN + n)) e
 
-  leave : (i d n : ℕ) → Dec (i < d) → d ≤ 128 → cell_above z P i d n ≡ Q (128 + i - d) (256 + n)
-  leave i d n (yes h) l = none_above z P i d n h ∙ sym (padded-above P (128 + i - d) (256 + n) (omega arith))
+  leave : (i d n : ℕ) → Dec (i < d) → d ≤ ABOVE → cell_above z P i d n ≡ Q (ABOVE + i - d) (MARGIN + n)
+  leave i d n (yes h) l = none_above z P i d n h ∙ sym (padded-above P (ABOVE + i - d) (MARGIN + n) (omega arith))
   leave i d n (no h) l =
-      let e : 128 + (i - d) ≡ 128 + i - d = omega arith in
-      cell-above z P past i d n (omega arith) ∙ sym (padded-cell P (i - d) n) ∙ ap (λ (y : ℕ). Q y (256 + n)) e
+      let e : ABOVE + (i - d) ≡ ABOVE + i - d = omega arith in
+      cell-above z P past i d n (omega arith) ∙ sym (padded-cell P (i - d) n) ∙ ap (λ (y : ℕ). Q y (MARGIN + n)) e
 
   -- both, in column x among zeros
   abbrev change : (i d x : ℕ) → ℤ
-  change i d x = Q (128 + i + 1 + d) x -ℤ Q (128 + i - d) x
+  change i d x = Q (ABOVE + i + 1 + d) x -ℤ Q (ABOVE + i - d) x
 
-  inside : (i d n x : ℕ) → d ≤ 128 → 256 + n ≡ x → enter_leave z P i d n ≡ change i d x
+  inside : (i d n x : ℕ) → d ≤ ABOVE → MARGIN + n ≡ x → enter_leave z P i d n ≡ change i d x
   unfolding enter_leave
   inside i d n x l e = ap₂ ◌-ℤ◌ (enter i d n) (leave i d n (dec_lt i d) l) ∙ ap (change i d) e
 
   -- the column c columns on the left of column j, and the one on the right
-  on-left : (i d c j : ℕ) → d ≤ 128 → c ≤ 256 → pick (leb c j) (enter_leave z P i d (j - c)) ≡ change i d (256 + j - c)
+  on-left : (i d c j : ℕ) → d ≤ ABOVE → c ≤ MARGIN → pick (leb c j) (enter_leave z P i d (j - c)) ≡ change i d (MARGIN + j - c)
   on-left i d c j l m = go (dec_lt j c)
     where
-      go : Dec (j < c) → pick (leb c j) (enter_leave z P i d (j - c)) ≡ change i d (256 + j - c)
+      go : Dec (j < c) → pick (leb c j) (enter_leave z P i d (j - c)) ≡ change i d (MARGIN + j - c)
       go (yes h) =
           pick_no (leb c j) (enter_leave z P i d (j - c)) (λ t. omega (arith, leb→le c j t))
-          ∙ sym (ap₂ ◌-ℤ◌ (padded-left P (128 + i + 1 + d) (256 + j - c) (omega arith)) (padded-left P (128 + i - d) (256 + j - c) (omega arith)))
-      go (no h) = pick_yes (leb c j) (enter_leave z P i d (j - c)) (le→leb c j (omega arith)) ∙ inside i d (j - c) (256 + j - c) l (omega arith)
+          ∙ sym (ap₂ ◌-ℤ◌ (padded-left P (ABOVE + i + 1 + d) (MARGIN + j - c) (omega arith)) (padded-left P (ABOVE + i - d) (MARGIN + j - c) (omega arith)))
+      go (no h) = pick_yes (leb c j) (enter_leave z P i d (j - c)) (le→leb c j (omega arith)) ∙ inside i d (j - c) (MARGIN + j - c) l (omega arith)
 
-  on-right : (i d c j : ℕ) → d ≤ 128 → pick (ltb (j + c) z.columns) (enter_leave z P i d (j + c)) ≡ change i d (256 + j + c)
+  on-right : (i d c j : ℕ) → d ≤ ABOVE → pick (ltb (j + c) z.columns) (enter_leave z P i d (j + c)) ≡ change i d (MARGIN + j + c)
   on-right i d c j l = go (dec_lt (j + c) z.columns)
     where
-      go : Dec (j + c < z.columns) → pick (ltb (j + c) z.columns) (enter_leave z P i d (j + c)) ≡ change i d (256 + j + c)
-      go (yes h) = pick_yes (ltb (j + c) z.columns) (enter_leave z P i d (j + c)) (lt→ltb (j + c) z.columns h) ∙ inside i d (j + c) (256 + j + c) l (omega arith)
+      go : Dec (j + c < z.columns) → pick (ltb (j + c) z.columns) (enter_leave z P i d (j + c)) ≡ change i d (MARGIN + j + c)
+      go (yes h) = pick_yes (ltb (j + c) z.columns) (enter_leave z P i d (j + c)) (lt→ltb (j + c) z.columns h) ∙ inside i d (j + c) (MARGIN + j + c) l (omega arith)
       go (no h) =
           pick_no (ltb (j + c) z.columns) (enter_leave z P i d (j + c)) (λ t. omega (arith, ltb→lt (j + c) z.columns t))
-          ∙ sym (ap₂ ◌-ℤ◌ (padded-right P z.columns beside (128 + i + 1 + d) (256 + j + c) (omega arith)) (padded-right P z.columns beside (128 + i - d) (256 + j + c) (omega arith)))
+          ∙ sym (ap₂ ◌-ℤ◌ (padded-right P z.columns beside (ABOVE + i + 1 + d) (MARGIN + j + c) (omega arith)) (padded-right P z.columns beside (ABOVE + i - d) (MARGIN + j + c) (omega arith)))
 
   crossed : (a b c d : ℤ) → (a -ℤ b) +ℤ (c -ℤ d) ≡ (c -ℤ b) +ℤ (a -ℤ d)
   crossed a b c d = ring (search (sums, any a, any b, any c, any d) depth 12) (omega arith)
@@ -84,19 +85,19 @@ module _ (z : Size) (P : ℕ → ℕ → ℤ) (past : (m n : ℕ) → z.rows ≤
     slope-depth : (t : ℕ) → t < h → depth s (w - t) ≡ t
     slope-depth t t< = depth-slanted s no-rectangle (w - t) ∙ omega (arith, wide)
 
-    slope : (t : ℕ) → t < h → at_distance z.columns (F (w - t)) (w - t) j ≡
-        (Q (128 + i + 1 + t) (256 + j + w - t) -ℤ Q (128 + i - t) (256 + j + t - w)) +ℤ (Q (128 + i + 1 + t) (256 + j + t - w) -ℤ Q (128 + i - t) (256 + j + w - t))
-    slope t t< =
-        let left : 256 + j - (w - t) ≡ 256 + j + t - w = omega (arith, wide) in
-        let right : 256 + j + (w - t) ≡ 256 + j + w - t = omega (arith, wide) in
+    slopes-at : (t : ℕ) → t < h → at_distance z.columns (F (w - t)) (w - t) j ≡
+        (Q (ABOVE + i + 1 + t) (MARGIN + j + w - t) -ℤ Q (ABOVE + i - t) (MARGIN + j + t - w)) +ℤ (Q (ABOVE + i + 1 + t) (MARGIN + j + t - w) -ℤ Q (ABOVE + i - t) (MARGIN + j + w - t))
+    slopes-at t t< =
+        let left : MARGIN + j - (w - t) ≡ MARGIN + j + t - w = omega (arith, wide) in
+        let right : MARGIN + j + (w - t) ≡ MARGIN + j + w - t = omega (arith, wide) in
         ap (λ (d : ℕ). at_distance z.columns (λ n. enter_leave z P i d n) (w - t) j) (slope-depth t t<)
         ∙ at-distance-some z.columns (w - t) j (λ n. enter_leave z P i t n) (omega (arith, wide))
         ∙ ap₂ ◌+ℤ◌ (on-left i t (w - t) j (omega arith) (omega arith) ∙ ap (change i t) left) (on-right i t (w - t) j (omega arith) ∙ ap (change i t) right)
-        ∙ crossed (Q (128 + i + 1 + t) (256 + j + t - w)) (Q (128 + i - t) (256 + j + t - w)) (Q (128 + i + 1 + t) (256 + j + w - t)) (Q (128 + i - t) (256 + j + w - t))
+        ∙ crossed (Q (ABOVE + i + 1 + t) (MARGIN + j + t - w)) (Q (ABOVE + i - t) (MARGIN + j + t - w)) (Q (ABOVE + i + 1 + t) (MARGIN + j + w - t)) (Q (ABOVE + i - t) (MARGIN + j + w - t))
 
-    slopes : sum_to h (λ t. at_distance z.columns (F (w - t)) (w - t) j) ≡ rising Q w h (128 + i) (256 + j) +ℤ falling Q w h (128 + i) (256 + j)
-    unfolding rising falling
-    slopes = sum-cong h _ _ slope ∙ sum-add h _ _
+    slopes : sum_to h (λ t. at_distance z.columns (F (w - t)) (w - t) j) ≡ rising Q w h (ABOVE + i) (MARGIN + j) +ℤ falling Q w h (ABOVE + i) (MARGIN + j)
+    unfolding edge_slopes
+    slopes = sum-cong h _ _ slopes-at ∙ sum-add h _ _
 
     -- the columns up to distance w - h are as high as the middle one
     flat-at : (n : ℕ) → Dec (w - h < dist j n) → pick (leb (dist j n) (w - h)) (F (dist j n) n) ≡ pick (leb (dist j n) (w - h)) (enter_leave z P i h n)
@@ -111,7 +112,7 @@ module _ (z : Size) (P : ℕ → ℕ → ℤ) (past : (m n : ℕ) → z.rows ≤
         middle h w c l m = omega arith
 
     parts : sum_to z.columns (λ n. pick (leb (column_gap z j n) w) (F (column_gap z j n) n)) ≡
-        sum_to z.columns (λ n. pick (leb (column_gap z j n) (w - h)) (enter_leave z P i h n)) +ℤ (rising Q w h (128 + i) (256 + j) +ℤ falling Q w h (128 + i) (256 + j))
+        sum_to z.columns (λ n. pick (leb (column_gap z j n) (w - h)) (enter_leave z P i h n)) +ℤ (rising Q w h (ABOVE + i) (MARGIN + j) +ℤ falling Q w h (ABOVE + i) (MARGIN + j))
     parts =
         near_last z.columns j F j< w h wide
         ∙ ap₂ ◌+ℤ◌ (sum-cong z.columns _ _ (λ n n<. flat-at n (dec_lt (w - h) (dist j n)))) slopes
@@ -123,5 +124,5 @@ module _ (z : Size) (P : ℕ → ℕ → ℤ) (past : (m n : ℕ) → z.rows ≤
   change-parts (slanted o) e low narrow i j j< = parts (slanted o) e low narrow i j j<
 
   -- a flat part of one column is a tip: the cell that enters less the one that leaves
-  pub tips : (h i j : ℕ) → h ≤ 128 → j < z.columns → sum_to z.columns (λ n. pick (leb (column_gap z j n) 0) (enter_leave z P i h n)) ≡ Q (128 + i + 1 + h) (256 + j) -ℤ Q (128 + i - h) (256 + j)
-  tips h i j l j< = near-0 z.columns j (λ d n. enter_leave z P i h n) j< ∙ inside i h j (256 + j) l (omega arith)
+  pub tips : (h i j : ℕ) → h ≤ ABOVE → j < z.columns → sum_to z.columns (λ n. pick (leb (column_gap z j n) 0) (enter_leave z P i h n)) ≡ Q (ABOVE + i + 1 + h) (MARGIN + j) -ℤ Q (ABOVE + i - h) (MARGIN + j)
+  tips h i j l j< = near-0 z.columns j (λ d n. enter_leave z P i h n) j< ∙ inside i h j (MARGIN + j) l (omega arith)

@@ -1,2 +1,2 @@
-pub mod Leans
+pub mod Loops
 pub mod Slopes

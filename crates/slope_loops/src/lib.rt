@@ -3,4 +3,4 @@
 #![tactic(auto)]
 
 pub mod padding; // padding.rt: rows of a plane among zeros
-pub mod leans; // leans.rt: the loops
+pub mod loops; // loops.rt: the loops

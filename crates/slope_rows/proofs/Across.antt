@@ -31,27 +31,29 @@ use Rattle.slope_loops.specs.Slopes.{padded, rising, falling}
 use Rattle.spec_picture.proofs.Found.{Checked}
 use Rattle.slope_rows.specs.Edges.{Slopes, across_slopes, TopDone, FromDone}
 use Rattle.slope_rows.proofs.First.{first_step}
+use Rattle.slope_loops.specs.declared.padding.TheConstants.{ABOVE, MARGIN}
+use Rattle.slope_rows.specs.declared.places.TheConstants.{FALLING_START, RISING_START, SLOPE_SHIFT}
 
 module _ (corner : ℤ) (rises falls : List ℤ) where
   pub across-none : across_slopes corner rises falls 0 ≡ corner
   unfolding across_slopes
   across-none = refl
 
-  pub across-more : (j : ℕ) → wrap (across_slopes corner rises falls j +ℤ (at rises (j + 128) -ℤ at falls (j + 385))) ≡ across_slopes corner rises falls (j + 1)
+  pub across-more : (j : ℕ) → wrap (across_slopes corner rises falls j +ℤ (at rises (j + RISING_START) -ℤ at falls (j + FALLING_START + 1))) ≡ across_slopes corner rises falls (j + 1)
   unfolding across_slopes
   across-more j = sym (ap (across_slopes corner rises falls) (add-one j))
 
 module _ (z : Size) (P : ℕ → ℕ → ℤ) (past : (m n : ℕ) → z.rows ≤ m → P m n ≡ pos 0) (beside : (m n : ℕ) → z.columns ≤ n → P m n ≡ pos 0) (lim : InLimits z) (small : (m n : ℕ) → nat_abs (P m n) ≤ 2 ^ 30)
     (s : Shape) (no-rectangle : is_rectangle s ≡ false) (low : height s ≤ 127) (narrow : width s ≤ 127) (some : 1 ≤ height s) (rises falls : List ℤ)
-    (kept : Slopes (padded P) z.columns (width s) (height s) 128 0 rises falls) where
+    (kept : Slopes (padded P) z.columns (width s) (height s) ABOVE 0 rises falls) where
   across-is : (j : ℕ) → j < z.columns → across_slopes (window_sum z s P 0 0) rises falls j ≡ window_sum z s P 0 j
   unfolding across_slopes
   across-is zero h = refl
   across-is (suc j) h =
-      let right : j + 128 + 128 - 0 ≡ 256 + j = omega arith in
-      let left : j + 385 + 0 - 128 ≡ 257 + j = omega arith in
-      let comes = kept.rising_at (j + 128) (omega arith) ∙ ap (rising (padded P) (width s) (height s) 128) right in
-      let goes = kept.falling_at (j + 385) (omega arith) ∙ ap (falling (padded P) (width s) (height s) 128) left in
+      let right : j + RISING_START + SLOPE_SHIFT - 0 ≡ MARGIN + j = omega arith in
+      let left : j + FALLING_START + 1 + 0 - SLOPE_SHIFT ≡ MARGIN + 1 + j = omega arith in
+      let comes = kept.rising_at (j + RISING_START) (omega arith) ∙ ap (rising (padded P) (width s) (height s) ABOVE) right in
+      let goes = kept.falling_at (j + FALLING_START + 1) (omega arith) ∙ ap (falling (padded P) (width s) (height s) ABOVE) left in
       ap wrap (ap₂ ◌+ℤ◌ (across-is j (omega arith)) (ap₂ ◌-ℤ◌ comes goes) ∙ sym (first_step z P past beside s no-rectangle low narrow j (omega arith) some))
       ∙ wrap-small (window_sum z s P 0 (suc j)) (omega (arith, window-fits z P lim small s 0 (suc j)))
 
@@ -60,7 +62,7 @@ module _ (z : Size) (P : ℕ → ℕ → ℤ) (past : (m n : ℕ) → z.rows ≤
 
 -- the work area of row 0, as a call makes it from the first sum and the slopes
 pub fresh-row : (x : Inputs) (c : Checked x) (no-rectangle : is_rectangle (shape_of x.window) ≡ false) (some : 1 ≤ height (shape_of x.window)) (rises falls before next : List ℤ) (corner : ℤ) (n : ℕ) →
-    Slopes (padded (plane_at x.source)) x.source.size.columns (width (shape_of x.window)) (height (shape_of x.window)) 128 0 rises falls →
+    Slopes (padded (plane_at x.source)) x.source.size.columns (width (shape_of x.window)) (height (shape_of x.window)) ABOVE 0 rises falls →
     corner ≡ direct_sum x 0 0 → n ≡ x.source.size.columns → next ≡ tabulate n (across_slopes corner rises falls) → next ≡ work_after x.source.size (plane_at x.source) (shape_of x.window) 0 before
 unfolding direct_sum
 fresh-row x c no-rectangle some rises falls before next corner n kept ec en e =

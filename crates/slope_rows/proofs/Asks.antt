@@ -12,13 +12,18 @@ use Rattle.spec_picture.specs.declared.checked.CheckedSource.{CheckedSource}
 use Rattle.spec_picture.specs.Checked.{checked_source}
 use Rattle.spec_picture.specs.Plane.{plane_number}
 use Rattle.spec_picture.proofs.Found.{limits}
+use Rattle.slope_loops.specs.declared.loops.GatherPlaces.{GatherPlaces}
+use Rattle.slope_loops.specs.declared.loops.SlidePlaces.{SlidePlaces}
 use Rattle.slope_loops.specs.Slopes.{padded}
-use Rattle.slope_loops.specs.Leans.{Holds, Within, GatherAsked, SlideAsked, FinishAsked, TipsAsked}
+use Rattle.slope_loops.specs.Loops.{Holds, Within, GatherAsked, SlideAsked, FinishAsked, TipsAsked}
 use Rattle.slope_loops.proofs.Moves.{padded-bound}
 use Rattle.slope_rows.specs.Asked.{FlatAsked}
 use Rattle.slope_rows.specs.declared.kept_slopes.SlantedInputs.{SlantedInputs}
 use Rattle.slope_rows.specs.Edges.{Slopes}
+use Rattle.slope_rows.specs.Places.{RisingCells, FallingCells, RisingPlaces, FallingPlaces}
 use Rattle.slope_rows.proofs.Kept.{within-row, within-rises, within-falls}
+use Rattle.slope_loops.specs.declared.padding.TheConstants.{ABOVE, MARGIN, ROW_LENGTH}
+use Rattle.slope_rows.specs.declared.places.TheConstants.{FALLING_START, RISING_START}
 
 module _ (slanted : SlantedInputs) (i : ℕ) (below : i < slanted.inputs.source.size.rows) where
   abbrev given : CheckedSource
@@ -66,112 +71,89 @@ module _ (slanted : SlantedInputs) (i : ℕ) (below : i < slanted.inputs.source.
           let most : n ≤ 127 = omega (arith, row-limits) in
           omega (arith, mul-le-mul_right (2 * B) most, room)
 
-      rises-within : (p count : ℕ) → 128 + m ≤ p → Within M rises p count
+      rises-within : (p count : ℕ) → RISING_START + m ≤ p → Within M rises p count
       rises-within p count = within-rises Q B small columns w n y m rises falls l M p count bounded
 
-      falls-within : (p count : ℕ) → p + count + m ≤ 384 + columns → Within M falls p count
+      falls-within : (p count : ℕ) → p + count + m ≤ FALLING_START + columns → Within M falls p count
       falls-within p count = within-falls Q B small columns w n y m rises falls l M p count bounded
 
     -- what a further cell of each slope asks
-    module _ {t : ℕ} {a b rises falls : List ℤ} (inside : t < h) (l : Slopes Q columns w t (128 + i) 0 rises falls)
-        (lower : Holds a (Q (129 + i + t))) (upper : Holds b (Q (128 + i - t))) where
-      pub rises-gather : GatherAsked M a b (columns + w) 128 (256 + w - t) (256 + t - w) rises × Within B a (256 + w - t) (columns + w) × Within B b (256 + t - w) (columns + w)
-      rises-gather = (
-        record {
-          length_a = lower.size;
-          length_b = upper.size;
-          length_sums = l.length_rises;
-          room = omega (arith, row-limits);
-          room_a = omega (arith, row-limits);
-          room_b = omega (arith, row-limits);
-          within = rises-within t (128 + i) 0 (omega arith) l 128 (columns + w) (omega arith);
-        },
-        row-within (129 + i + t) _ _ lower,
-        row-within (128 + i - t) _ _ upper,
+    module _ {t : ℕ} {a b rises falls : List ℤ} (inside : t < h) (l : Slopes Q columns w t (ABOVE + i) 0 rises falls)
+        (lower : Holds a (Q (ABOVE + i + 1 + t))) (upper : Holds b (Q (ABOVE + i - t))) where
+      gather-asked : (places : GatherPlaces) {sums : List ℤ} → length sums ≡ ROW_LENGTH → columns + w + places.sums ≤ ROW_LENGTH → columns + w + places.enters ≤ ROW_LENGTH → columns + w + places.leaves ≤ ROW_LENGTH → Within M sums places.sums (columns + w) →
+          GatherAsked M a b (columns + w) places sums × Within B a places.enters (columns + w) × Within B b places.leaves (columns + w)
+      gather-asked places length_sums room room_a room_b within = (
+        record { length_a = lower.size; length_b = upper.size; length_sums = length_sums; room = room; room_a = room_a; room_b = room_b; within = within },
+        row-within (ABOVE + i + 1 + t) _ _ lower,
+        row-within (ABOVE + i - t) _ _ upper,
       )
 
-      pub falls-gather : GatherAsked M a b (columns + w) (384 - w) (256 + t - 2 * w) (256 - t) falls × Within B a (256 + t - 2 * w) (columns + w) × Within B b (256 - t) (columns + w)
-      falls-gather = (
-        record {
-          length_a = lower.size;
-          length_b = upper.size;
-          length_sums = l.length_falls;
-          room = omega (arith, row-limits);
-          room_a = omega (arith, row-limits);
-          room_b = omega (arith, row-limits);
-          within = falls-within t (128 + i) 0 (omega arith) l (384 - w) (columns + w) (omega (arith, row-limits));
-        },
-        row-within (129 + i + t) _ _ lower,
-        row-within (128 + i - t) _ _ upper,
-      )
+      pub rises-gather : (places : GatherPlaces) → RisingCells MARGIN (w - t) places → GatherAsked M a b (columns + w) places rises × Within B a places.enters (columns + w) × Within B b places.leaves (columns + w)
+      rises-gather places r =
+          gather-asked places l.length_rises (omega (arith, row-limits, r.sums)) (omega (arith, row-limits, r.enters)) (omega (arith, row-limits, r.leaves))
+          (rises-within t (ABOVE + i) 0 (omega arith) l places.sums (columns + w) (omega (arith, r.sums)))
+
+      pub falls-gather : (places : GatherPlaces) → FallingCells (MARGIN - w) (w - t) places → GatherAsked M a b (columns + w) places falls × Within B a places.enters (columns + w) × Within B b places.leaves (columns + w)
+      falls-gather places r =
+          gather-asked places l.length_falls (omega (arith, row-limits, r.sums)) (omega (arith, row-limits, r.enters)) (omega (arith, row-limits, r.leaves))
+          (falls-within t (ABOVE + i) 0 (omega arith) l places.sums (columns + w) (omega (arith, row-limits, r.sums)))
 
     -- the slopes of row i, in the m'th row of a call
-    module _ {m : ℕ} {rises falls : List ℤ} (turn : m ≤ 254) (l : Slopes Q columns w h (128 + i) m rises falls) where
+    module _ {m : ℕ} {rises falls : List ℤ} (turn : m ≤ 254) (l : Slopes Q columns w h (ABOVE + i) m rises falls) where
       -- what the slopes of the next row ask
-      module _ {a b c : List ℤ} (lower : Holds a (Q (129 + i + h))) (middle : Holds b (Q (129 + i))) (upper : Holds c (Q (129 + i - h))) where
-        pub rises-slide : SlideAsked M a b c (columns + w) (129 + m) (257 + (w - h)) (257 + w) (256 - w) (256 - (w - h)) rises
-            × Within B a (257 + (w - h)) (columns + w) × Within B b (257 + w) (columns + w) × Within B b (256 - w) (columns + w) × Within B c (256 - (w - h)) (columns + w)
-        rises-slide = (
+      module _ {a b c : List ℤ} (lower : Holds a (Q (ABOVE + i + 1 + h))) (middle : Holds b (Q (ABOVE + i + 1))) (upper : Holds c (Q (ABOVE + i + 1 - h))) where
+        slide-asked : (places : SlidePlaces) {sums : List ℤ} → length sums ≡ ROW_LENGTH → columns + w + places.sums ≤ ROW_LENGTH → columns + w + places.lower_new ≤ ROW_LENGTH → columns + w + places.lower_gone ≤ ROW_LENGTH →
+            columns + w + places.upper_new ≤ ROW_LENGTH → columns + w + places.upper_gone ≤ ROW_LENGTH → Within M sums places.sums (columns + w) →
+            SlideAsked M a b c (columns + w) places sums
+            × Within B a places.lower_new (columns + w) × Within B b places.lower_gone (columns + w) × Within B b places.upper_new (columns + w) × Within B c places.upper_gone (columns + w)
+        slide-asked places length_sums room lower_new lower_gone upper_new upper_gone within = (
           record {
-            gather = record {
-              length_a = lower.size;
-              length_b = middle.size;
-              length_sums = l.length_rises;
-              room = omega (arith, row-limits);
-              room_a = omega (arith, row-limits);
-              room_b = omega (arith, row-limits);
-              within = rises-within h (128 + i) m (omega arith) l (129 + m) (columns + w) (omega arith);
-            };
+            length_a = lower.size;
+            length_b = middle.size;
             length_c = upper.size;
-            room_b = omega (arith, row-limits);
-            room_c = omega (arith, row-limits);
+            length_sums = length_sums;
+            room = room;
+            room_lower_new = lower_new;
+            room_lower_gone = lower_gone;
+            room_upper_new = upper_new;
+            room_upper_gone = upper_gone;
+            within = within;
           },
-          row-within (129 + i + h) _ _ lower,
-          row-within (129 + i) _ _ middle,
-          row-within (129 + i) _ _ middle,
-          row-within (129 + i - h) _ _ upper,
+          row-within (ABOVE + i + 1 + h) _ _ lower,
+          row-within (ABOVE + i + 1) _ _ middle,
+          row-within (ABOVE + i + 1) _ _ middle,
+          row-within (ABOVE + i + 1 - h) _ _ upper,
         )
 
-        pub falls-slide : SlideAsked M a b c (columns + w) (383 - m - w) (255 - w - (w - h)) (255 - 2 * w) 256 (256 - w + (w - h)) falls
-            × Within B a (255 - w - (w - h)) (columns + w) × Within B b (255 - 2 * w) (columns + w) × Within B b 256 (columns + w) × Within B c (256 - w + (w - h)) (columns + w)
-        falls-slide = (
-          record {
-            gather = record {
-              length_a = lower.size;
-              length_b = middle.size;
-              length_sums = l.length_falls;
-              room = omega (arith, row-limits);
-              room_a = omega (arith, row-limits);
-              room_b = omega (arith, row-limits);
-              within = falls-within h (128 + i) m (omega arith) l (383 - m - w) (columns + w) (omega (arith, row-limits));
-            };
-            length_c = upper.size;
-            room_b = omega (arith, row-limits);
-            room_c = omega (arith, row-limits);
-          },
-          row-within (129 + i + h) _ _ lower,
-          row-within (129 + i) _ _ middle,
-          row-within (129 + i) _ _ middle,
-          row-within (129 + i - h) _ _ upper,
-        )
+        pub rises-slide : (places : SlidePlaces) → RisingPlaces MARGIN (m + 1) w (w - h) places → SlideAsked M a b c (columns + w) places rises
+            × Within B a places.lower_new (columns + w) × Within B b places.lower_gone (columns + w) × Within B b places.upper_new (columns + w) × Within B c places.upper_gone (columns + w)
+        rises-slide places r =
+            slide-asked places l.length_rises (omega (arith, row-limits, r.sums)) (omega (arith, row-limits, r.lower_new)) (omega (arith, row-limits, r.lower_gone)) (omega (arith, row-limits, r.upper_new)) (omega (arith, row-limits, r.upper_gone))
+            (rises-within h (ABOVE + i) m (omega arith) l places.sums (columns + w) (omega (arith, r.sums)))
+
+        pub falls-slide : (places : SlidePlaces) → FallingPlaces (MARGIN - w) (m + 1) w (w - h) places → SlideAsked M a b c (columns + w) places falls
+            × Within B a places.lower_new (columns + w) × Within B b places.lower_gone (columns + w) × Within B b places.upper_new (columns + w) × Within B c places.upper_gone (columns + w)
+        falls-slide places r =
+            slide-asked places l.length_falls (omega (arith, row-limits, r.sums)) (omega (arith, row-limits, r.lower_new)) (omega (arith, row-limits, r.lower_gone)) (omega (arith, row-limits, r.upper_new)) (omega (arith, row-limits, r.upper_gone))
+            (falls-within h (ABOVE + i) m (omega arith) l places.sums (columns + w) (omega (arith, row-limits, r.sums)))
 
       -- what the work row asks
       module _ {work out : List ℤ} (lw : length work ≡ columns) (lo : length out ≡ columns) where
-        pub finish-asked : FinishAsked M rises falls (128 + m) (384 - m) work out
+        pub finish-asked : FinishAsked M rises falls (RISING_START + m) (FALLING_START - m) work out
         finish-asked = record {
           length_rising = l.length_rises;
           length_falling = l.length_falls;
           length_out = lo ∙ sym lw;
           room_rising = omega (arith, lw, row-limits);
           room_falling = omega (arith, lw, row-limits);
-          within_rising = rises-within h (128 + i) m (omega arith) l (128 + m) (length work) (omega arith);
-          within_falling = falls-within h (128 + i) m (omega arith) l (384 - m) (length work) (omega (arith, lw));
+          within_rising = rises-within h (ABOVE + i) m (omega arith) l (RISING_START + m) (length work) (omega arith);
+          within_falling = falls-within h (ABOVE + i) m (omega arith) l (FALLING_START - m) (length work) (omega (arith, lw));
         }
 
-        pub tips-asked : {a c : List ℤ} → Holds a (Q (129 + i + h)) → Holds c (Q (128 + i - h)) →
-            TipsAsked M a c rises falls (128 + m) (384 - m) work out × Within B a 256 (length work) × Within B c 256 (length work)
+        pub tips-asked : {a c : List ℤ} → Holds a (Q (ABOVE + i + 1 + h)) → Holds c (Q (ABOVE + i - h)) →
+            TipsAsked M a c rises falls (RISING_START + m) (FALLING_START - m) work out × Within B a MARGIN (length work) × Within B c MARGIN (length work)
         tips-asked entering leaving = (
           record { slopes = finish-asked; length_a = entering.size; length_c = leaving.size; room = omega (arith, lw, row-limits) },
-          row-within (129 + i + h) _ _ entering,
-          row-within (128 + i - h) _ _ leaving,
+          row-within (ABOVE + i + 1 + h) _ _ entering,
+          row-within (ABOVE + i - h) _ _ leaving,
         )

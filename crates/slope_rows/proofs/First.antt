@@ -14,9 +14,10 @@ use Rattle.spec_picture.specs.declared.Size.{Size}
 use Rattle.spec_picture.specs.Window.{Shape, is_rectangle, height, reach, width}
 use Rattle.spec_picture.specs.Direct.{window_sum}
 use Rattle.spec_picture.proofs.Windows.{height-width, reach-slanted}
-use Rattle.slope_loops.specs.Slopes.{padded, rising, falling}
+use Rattle.slope_loops.specs.Slopes.{padded, edge_slopes, rising, falling}
 use Rattle.slope_loops.proofs.Moves.{padded-cell, padded-above, padded-left, padded-right}
 use Rattle.row_steps.proofs.Columns.{reached, window-0}
+use Rattle.slope_loops.specs.declared.padding.TheConstants.{ABOVE, MARGIN}
 
 -- ---- sums
 -- the first term and the others
@@ -50,33 +51,33 @@ module _ (z : Size) (P : ℕ → ℕ → ℤ) (past : (m n : ℕ) → z.rows ≤
   abbrev Q : ℕ → ℕ → ℤ
   Q = padded P
 
-  padded-past : (m x : ℕ) → z.rows ≤ m → Q (128 + m) x ≡ pos 0
-  padded-past m x h = go (dec_lt x 256)
+  padded-past : (m x : ℕ) → z.rows ≤ m → Q (ABOVE + m) x ≡ pos 0
+  padded-past m x h = go (dec_lt x MARGIN)
     where
-      go : Dec (x < 256) → Q (128 + m) x ≡ pos 0
-      go (yes l) = padded-left P (128 + m) x l
+      go : Dec (x < MARGIN) → Q (ABOVE + m) x ≡ pos 0
+      go (yes l) = padded-left P (ABOVE + m) x l
       go (no l) =
-          let e : 256 + (x - 256) ≡ x = omega arith in
-          sym (ap (Q (128 + m)) e) ∙ padded-cell P m (x - 256) ∙ past m (x - 256) h
+          let e : MARGIN + (x - MARGIN) ≡ x = omega arith in
+          sym (ap (Q (ABOVE + m)) e) ∙ padded-cell P m (x - MARGIN) ∙ past m (x - MARGIN) h
 
   -- ---- one row, from column j to j+1, as far as k to both sides
-  on-right : (m k j : ℕ) → pick (ltb (suc j + k) z.columns) (P m (suc j + k)) ≡ Q (128 + m) (257 + j + k)
+  on-right : (m k j : ℕ) → pick (ltb (suc j + k) z.columns) (P m (suc j + k)) ≡ Q (ABOVE + m) (MARGIN + 1 + j + k)
   on-right m k j = go (dec_lt (suc j + k) z.columns)
     where
-      go : Dec (suc j + k < z.columns) → pick (ltb (suc j + k) z.columns) (P m (suc j + k)) ≡ Q (128 + m) (257 + j + k)
+      go : Dec (suc j + k < z.columns) → pick (ltb (suc j + k) z.columns) (P m (suc j + k)) ≡ Q (ABOVE + m) (MARGIN + 1 + j + k)
       go (yes h) =
-          let e : 256 + (suc j + k) ≡ 257 + j + k = omega arith in
-          pick-in (suc j + k) z.columns (P m (suc j + k)) h ∙ sym (padded-cell P m (suc j + k)) ∙ ap (Q (128 + m)) e
-      go (no h) = pick_out (suc j + k) z.columns (P m (suc j + k)) (omega arith) ∙ sym (padded-right P z.columns beside (128 + m) (257 + j + k) (omega arith))
+          let e : MARGIN + (suc j + k) ≡ MARGIN + 1 + j + k = omega arith in
+          pick-in (suc j + k) z.columns (P m (suc j + k)) h ∙ sym (padded-cell P m (suc j + k)) ∙ ap (Q (ABOVE + m)) e
+      go (no h) = pick_out (suc j + k) z.columns (P m (suc j + k)) (omega arith) ∙ sym (padded-right P z.columns beside (ABOVE + m) (MARGIN + 1 + j + k) (omega arith))
 
-  on-left : (m k j : ℕ) → k ≤ 256 → j < z.columns → pick (leb k j) (pick (ltb (j - k) z.columns) (P m (j - k))) ≡ Q (128 + m) (256 + j - k)
+  on-left : (m k j : ℕ) → k ≤ MARGIN → j < z.columns → pick (leb k j) (pick (ltb (j - k) z.columns) (P m (j - k))) ≡ Q (ABOVE + m) (MARGIN + j - k)
   on-left m k j l j< = go (dec_lt j k)
     where
-      go : Dec (j < k) → pick (leb k j) (pick (ltb (j - k) z.columns) (P m (j - k))) ≡ Q (128 + m) (256 + j - k)
-      go (yes h) = pick_no (leb k j) (pick (ltb (j - k) z.columns) (P m (j - k))) (λ t. omega (arith, leb→le k j t)) ∙ sym (padded-left P (128 + m) (256 + j - k) (omega arith))
+      go : Dec (j < k) → pick (leb k j) (pick (ltb (j - k) z.columns) (P m (j - k))) ≡ Q (ABOVE + m) (MARGIN + j - k)
+      go (yes h) = pick_no (leb k j) (pick (ltb (j - k) z.columns) (P m (j - k))) (λ t. omega (arith, leb→le k j t)) ∙ sym (padded-left P (ABOVE + m) (MARGIN + j - k) (omega arith))
       go (no h) =
-          let e : 256 + (j - k) ≡ 256 + j - k = omega arith in
-          pick_yes (leb k j) (pick (ltb (j - k) z.columns) (P m (j - k))) (le→leb k j (omega arith)) ∙ pick-in (j - k) z.columns (P m (j - k)) (omega arith) ∙ sym (padded-cell P m (j - k)) ∙ ap (Q (128 + m)) e
+          let e : MARGIN + (j - k) ≡ MARGIN + j - k = omega arith in
+          pick_yes (leb k j) (pick (ltb (j - k) z.columns) (P m (j - k))) (le→leb k j (omega arith)) ∙ pick-in (j - k) z.columns (P m (j - k)) (omega arith) ∙ sym (padded-cell P m (j - k)) ∙ ap (Q (ABOVE + m)) e
 
   module _ (s : Shape) (no-rectangle : is_rectangle s ≡ false) (low : height s ≤ 127) (narrow : width s ≤ 127) (j : ℕ) (j< : j < z.columns) where
     abbrev h : ℕ
@@ -87,22 +88,22 @@ module _ (z : Size) (P : ℕ → ℕ → ℤ) (past : (m n : ℕ) → z.rows ≤
 
     -- row t of the window: the cell behind its right end comes in, and the one at its left end goes
     abbrev comes : ℕ → ℤ
-    comes t = Q (128 + t) (257 + j + w - t)
+    comes t = Q (ABOVE + t) (MARGIN + 1 + j + w - t)
 
     abbrev goes : ℕ → ℤ
-    goes t = Q (128 + t) (256 + j + t - w)
+    goes t = Q (ABOVE + t) (MARGIN + j + t - w)
 
     row_step : (t : ℕ) → t ≤ h → reached z P s t (suc j) ≡ reached z P s t j +ℤ (comes t -ℤ goes t)
     row_step t l =
         let k : reach s t ≡ w - t = reach-slanted s no-rectangle t in
         let wide : h ≤ w = height-width s no-rectangle in
-        let right : 257 + j + (w - t) ≡ 257 + j + w - t = omega arith in
-        let left : 256 + j - (w - t) ≡ 256 + j + t - w = omega arith in
+        let right : MARGIN + 1 + j + (w - t) ≡ MARGIN + 1 + j + w - t = omega arith in
+        let left : MARGIN + j - (w - t) ≡ MARGIN + j + t - w = omega arith in
         near_step z.columns j (reach s t) (P t)
         ∙ ap (λ (v : ℤ). reached z P s t j +ℤ v)
         (ap₂ ◌-ℤ◌
-        (on-right t (reach s t) j ∙ ap (λ (q : ℕ). Q (128 + t) (257 + j + q)) k ∙ ap (Q (128 + t)) right)
-        (on-left t (reach s t) j (omega (arith, k)) j< ∙ ap (λ (q : ℕ). Q (128 + t) (256 + j - q)) k ∙ ap (Q (128 + t)) left))
+        (on-right t (reach s t) j ∙ ap (λ (q : ℕ). Q (ABOVE + t) (MARGIN + 1 + j + q)) k ∙ ap (Q (ABOVE + t)) right)
+        (on-left t (reach s t) j (omega (arith, k)) j< ∙ ap (λ (q : ℕ). Q (ABOVE + t) (MARGIN + j - q)) k ∙ ap (Q (ABOVE + t)) left))
 
     rows_step : window_sum z s P 0 (suc j) ≡ window_sum z s P 0 j +ℤ sum_to (suc h) (λ t. comes t -ℤ goes t)
     rows_step =
@@ -112,30 +113,30 @@ module _ (z : Size) (P : ℕ → ℕ → ℤ) (past : (m n : ℕ) → z.rows ≤
         ∙ sum-cong m (λ t. reached z P s t (suc j)) (λ t. reached z P s t j +ℤ (comes t -ℤ goes t)) (λ t t<. row_step t (omega arith))
         ∙ sum-add m (λ t. reached z P s t j) (λ t. comes t -ℤ goes t)
         ∙ ap₂ ◌+ℤ◌ (sym (window-0 z P s j))
-        (sum-upto (suc (0 + h)) z.rows (λ t. comes t -ℤ goes t) (λ t l. ap₂ ◌-ℤ◌ (padded-past t (257 + j + w - t) l) (padded-past t (256 + j + t - w) l))
+        (sum-upto (suc (0 + h)) z.rows (λ t. comes t -ℤ goes t) (λ t l. ap₂ ◌-ℤ◌ (padded-past t (MARGIN + 1 + j + w - t) l) (padded-past t (MARGIN + j + t - w) l))
         ∙ ap (λ (n : ℕ). sum_to (suc n) (λ t. comes t -ℤ goes t)) from_0)
 
     -- of row 0 the slopes have lower cells, and above them those of row 0 alone
-    rising-is : 1 ≤ h → rising Q w h 128 (256 + j) ≡ sum_to h (λ t. comes (suc t)) -ℤ goes 0
-    unfolding rising
+    rising-is : 1 ≤ h → rising Q w h ABOVE (MARGIN + j) ≡ sum_to h (λ t. comes (suc t)) -ℤ goes 0
+    unfolding edge_slopes
     rising-is some =
-        sum-sub h (λ t. Q (128 + 1 + t) (256 + j + w - t)) (λ t. Q (128 - t) (256 + j + t - w))
+        sum-sub h (λ t. Q (ABOVE + 1 + t) (MARGIN + j + w - t)) (λ t. Q (ABOVE - t) (MARGIN + j + t - w))
         ∙ ap₂ ◌-ℤ◌
-        (sum-cong h (λ t. Q (128 + 1 + t) (256 + j + w - t)) (λ t. comes (suc t)) (λ t t<. ap₂ Q (omega arith) (omega arith)))
-        (only-first h (λ t. Q (128 - t) (256 + j + t - w)) some (λ t l. padded-above P (128 - t) (256 + j + t - w) (omega arith)) ∙ ap₂ Q (omega arith) (omega arith))
+        (sum-cong h (λ t. Q (ABOVE + 1 + t) (MARGIN + j + w - t)) (λ t. comes (suc t)) (λ t t<. ap₂ Q (omega arith) (omega arith)))
+        (only-first h (λ t. Q (ABOVE - t) (MARGIN + j + t - w)) some (λ t l. padded-above P (ABOVE - t) (MARGIN + j + t - w) (omega arith)) ∙ ap₂ Q (omega arith) (omega arith))
 
-    falling-is : 1 ≤ h → falling Q w h 128 (257 + j) ≡ sum_to h (λ t. goes (suc t)) -ℤ comes 0
-    unfolding falling
+    falling-is : 1 ≤ h → falling Q w h ABOVE (MARGIN + 1 + j) ≡ sum_to h (λ t. goes (suc t)) -ℤ comes 0
+    unfolding edge_slopes
     falling-is some =
-        sum-sub h (λ t. Q (128 + 1 + t) (257 + j + t - w)) (λ t. Q (128 - t) (257 + j + w - t))
+        sum-sub h (λ t. Q (ABOVE + 1 + t) (MARGIN + 1 + j + t - w)) (λ t. Q (ABOVE - t) (MARGIN + 1 + j + w - t))
         ∙ ap₂ ◌-ℤ◌
-        (sum-cong h (λ t. Q (128 + 1 + t) (257 + j + t - w)) (λ t. goes (suc t)) (λ t t<. ap₂ Q (omega arith) (omega arith)))
-        (only-first h (λ t. Q (128 - t) (257 + j + w - t)) some (λ t l. padded-above P (128 - t) (257 + j + w - t) (omega arith)) ∙ ap₂ Q (omega arith) (omega arith))
+        (sum-cong h (λ t. Q (ABOVE + 1 + t) (MARGIN + 1 + j + t - w)) (λ t. goes (suc t)) (λ t t<. ap₂ Q (omega arith) (omega arith)))
+        (only-first h (λ t. Q (ABOVE - t) (MARGIN + 1 + j + w - t)) some (λ t l. padded-above P (ABOVE - t) (MARGIN + 1 + j + w - t) (omega arith)) ∙ ap₂ Q (omega arith) (omega arith))
 
     parted : (c cs g gs : ℤ) → (c +ℤ cs) -ℤ (g +ℤ gs) ≡ (cs -ℤ g) -ℤ (gs -ℤ c)
     parted c cs g gs = ring (search (sums, any c, any cs, any g, any gs) depth 12) (omega arith)
 
-    pub first_step : 1 ≤ h → window_sum z s P 0 (suc j) ≡ window_sum z s P 0 j +ℤ (rising Q w h 128 (256 + j) -ℤ falling Q w h 128 (257 + j))
+    pub first_step : 1 ≤ h → window_sum z s P 0 (suc j) ≡ window_sum z s P 0 j +ℤ (rising Q w h ABOVE (MARGIN + j) -ℤ falling Q w h ABOVE (MARGIN + 1 + j))
     first_step some =
         rows_step
         ∙ ap (λ (v : ℤ). window_sum z s P 0 j +ℤ v)

@@ -1,6 +1,6 @@
 -- The slopes that the code keeps: none at first, a cell more of each, and those of the next row. What they add to the work area.
 -- Assumes nothing.
-use mathlib.Core.Path.{◌≡◌, refl, sym, ◌∙◌, ap, ap₂}
+use mathlib.Core.Path.{◌≡◌, sym, ◌∙◌, ap, ap₂}
 use Prim.Native.Nat.{ℕ, ◌+◌, ◌-◌, ◌*◌, ◌≤◌, ◌<◌}
 use native.Mathlib.Omega.{arith}
 use native.Mathlib.Decide.{dec_lt}
@@ -18,27 +18,33 @@ use Rattle.numbers.proofs.Writes.{at}
 use Rattle.spec_picture.specs.declared.Size.{Size}
 use Rattle.spec_picture.specs.Size.{column_gap}
 use Rattle.spec_rows.specs.Rows.{enter_leave}
-use Rattle.slope_loops.specs.Slopes.{padded, rising, falling, edges_change}
-use Rattle.slope_loops.proofs.Moves.{padded-left, padded-right, rising_none, falling-none, rising-more, falling-more, rising_step, falling-step, rising-right, falling-left, rising-bound, falling_bound}
+use Rattle.slope_loops.specs.declared.loops.GatherPlaces.{GatherPlaces}
+use Rattle.slope_loops.specs.declared.loops.SlidePlaces.{SlidePlaces}
+use Rattle.slope_loops.specs.Slopes.{padded, edge_slopes, on_right, on_left, rising, falling, edges_change}
+use Rattle.slope_loops.proofs.LoopLaws.{moved-all}
+use Rattle.slope_loops.proofs.Moves.{padded-left, padded-right, slope_none, slope-more, slope_bound, rising_step, falling-step, rising-right, falling-left}
 use Rattle.slope_loops.proofs.Parts.{tips}
-use Rattle.slope_loops.specs.Leans.{Blank, Holds, Within, Moved, gathered, slid, taken, taken_tips}
+use Rattle.slope_loops.specs.Loops.{Blank, Holds, Within, Moved, gathered, slid, taken, taken_tips}
 use Rattle.slope_rows.specs.Edges.{Slopes}
+use Rattle.slope_rows.specs.Places.{RisingCells, FallingCells, RisingPlaces, FallingPlaces}
 use Rattle.std.proofs.lemmas.List.{get_or_past}
+use Rattle.slope_loops.specs.declared.padding.TheConstants.{ABOVE, MARGIN, ROW_LENGTH}
+use Rattle.slope_rows.specs.declared.places.TheConstants.{FALLING_START, RISING_START, SLOPE_SHIFT}
 
 -- ---- rows of zeros
 zero-at : (n x : ℕ) → Dec (x < n) → at (replicate n (pos 0)) x ≡ pos 0
 zero-at n x (yes l) = get_or-replicate n x (pos 0) (pos 0) l
 zero-at n x (no l) = get_or_past (replicate n (pos 0)) x (pos 0) (omega (arith, length-replicate n (pos 0)))
 
-pub zeros-blank : (n columns : ℕ) → n ≡ 1536 → Blank (replicate n (pos 0)) columns
+pub zeros-blank : (n columns : ℕ) → n ≡ ROW_LENGTH → Blank (replicate n (pos 0)) columns
 zeros-blank n columns e = record { size = length-replicate n (pos 0) ∙ e; low = λ x l. zero-at n x (dec_lt x n); high = λ x l. zero-at n x (dec_lt x n) }
 
-pub zeros-slopes : (Q : ℕ → ℕ → ℤ) (columns w y n : ℕ) → n ≡ 1536 → Slopes Q columns w 0 y 0 (replicate n (pos 0)) (replicate n (pos 0))
+pub zeros-slopes : (Q : ℕ → ℕ → ℤ) (columns w y n : ℕ) → n ≡ ROW_LENGTH → Slopes Q columns w 0 y 0 (replicate n (pos 0)) (replicate n (pos 0))
 zeros-slopes Q columns w y n e = record {
   length_rises = length-replicate n (pos 0) ∙ e;
   length_falls = length-replicate n (pos 0) ∙ e;
-  rising_at = λ s l. zero-at n s (dec_lt s n) ∙ sym (rising_none Q w y (s + 128 - 0));
-  falling_at = λ s l. zero-at n s (dec_lt s n) ∙ sym (falling-none Q w y (s + 0 - 128));
+  rising_at = λ s l. zero-at n s (dec_lt s n) ∙ sym (slope_none Q (on_right w (s + SLOPE_SHIFT - 0)) (on_left w (s + SLOPE_SHIFT - 0)) y);
+  falling_at = λ s l. zero-at n s (dec_lt s n) ∙ sym (slope_none Q (on_left w (s + 0 - SLOPE_SHIFT)) (on_right w (s + 0 - SLOPE_SHIFT)) y);
 }
 
 -- ---- how large they are
@@ -51,28 +57,32 @@ module _ (Q : ℕ → ℕ → ℤ) (B : ℕ) (small : (y x : ℕ) → nat_abs (Q
   within-row a y M p n l u = record { each = λ x x<. rw (u.each (x + p)) (omega (arith, mag-size (Q y (x + p)), small y (x + p))) }
 
   module _ (columns w n y m : ℕ) (rises falls : List ℤ) (l : Slopes Q columns w n y m rises falls) (M p count : ℕ) (large : n * (2 * B) ≤ M) where
-    pub within-rises : 128 + m ≤ p → Within M rises p count
-    within-rises h = record {
-      each = λ x x<. rw (l.rising_at (x + p) (omega arith)) (omega (arith, mag-size (rising Q w n y (x + p + 128 - m)), rising-bound Q w B small n y (x + p + 128 - m)));
-    }
+    within_slope : (lower upper : ℕ → ℕ) (v : ℤ) → v ≡ edge_slopes Q lower upper n y → mag v ≤ M
+    within_slope lower upper v e = rw e (omega (arith, mag-size (edge_slopes Q lower upper n y), slope_bound Q lower upper B small n y))
 
-    pub within-falls : p + count + m ≤ 384 + columns → Within M falls p count
-    within-falls h = record {
-      each = λ x x<. rw (l.falling_at (x + p) (omega arith)) (omega (arith, mag-size (falling Q w n y (x + p + m - 128)), falling_bound Q w B small n y (x + p + m - 128)));
-    }
+    pub within-rises : RISING_START + m ≤ p → Within M rises p count
+    within-rises h = record { each = λ x x<. within_slope _ _ _ (l.rising_at (x + p) (omega arith)) }
 
--- ---- the columns of the four cells that come into a falling slope or leave it
-left-slope : (x w k : ℕ) → w ≤ 127 → k ≤ w → x + (255 - w - k) ≡ 255 - w + x - k
-left-slope x w k h l = omega arith
+    pub within-falls : p + count + m ≤ FALLING_START + columns → Within M falls p count
+    within-falls h = record { each = λ x x<. within_slope _ _ _ (l.falling_at (x + p) (omega arith)) }
 
-left_end : (x w : ℕ) → w ≤ 127 → x + (255 - 2 * w) ≡ 255 - w + x - w
-left_end x w h = omega arith
+-- ---- what the loops make of the slopes of a column, whichever way they go
+module _ (Q : ℕ → ℕ → ℤ) where
+  held : {a : List ℤ} {y : ℕ} (k : ℕ) {c : ℕ} → Holds a (Q y) → k ≡ c → at a k ≡ Q y c
+  held {y = y} k u e = u.each k ∙ ap (Q y) e
 
-right_end : (x w : ℕ) → w ≤ 127 → x + 256 ≡ 255 - w + x + 1 + w
-right_end x w h = omega arith
+  -- a cell more of each edge
+  gathered-more : (lower upper : ℕ → ℕ) (n y x : ℕ) {a b : List ℤ} (sums : List ℤ) (places : GatherPlaces) → Holds a (Q (y + 1 + n)) → Holds b (Q (y - n)) → at sums (x + places.sums) ≡ edge_slopes Q lower upper n y →
+      x + places.enters ≡ lower n → x + places.leaves ≡ upper n → gathered a b places sums x ≡ edge_slopes Q lower upper (n + 1) y
+  gathered-more lower upper n y x sums places enters leaves e p q = ap₂ ◌+ℤ◌ e (ap₂ ◌-ℤ◌ (held (x + places.enters) enters p) (held (x + places.leaves) leaves q)) ∙ sym (slope-more Q lower upper n y)
 
-right-slope : (x w k : ℕ) → w ≤ 127 → x + (256 - w + k) ≡ 255 - w + x + 1 + k
-right-slope x w k h = omega arith
+  -- a new cell of each edge, and one that is gone
+  slid-is : (n y x : ℕ) {a b c : List ℤ} (sums : List ℤ) {old : ℤ} {lower_new lower_gone upper_new upper_gone : ℕ} (places : SlidePlaces) →
+      Holds a (Q (y + 1 + n)) → Holds b (Q (y + 1)) → Holds c (Q (y + 1 - n)) → at sums (x + places.sums) ≡ old →
+      x + places.lower_new ≡ lower_new → x + places.lower_gone ≡ lower_gone → x + places.upper_new ≡ upper_new → x + places.upper_gone ≡ upper_gone →
+      slid a b c places sums x ≡ old +ℤ (Q (y + 1 + n) lower_new -ℤ Q (y + 1) lower_gone) -ℤ (Q (y + 1) upper_new -ℤ Q (y + 1 - n) upper_gone)
+  slid-is n y x sums places lower middle upper e p q r s =
+      ap₂ ◌-ℤ◌ (ap₂ ◌+ℤ◌ e (ap₂ ◌-ℤ◌ (held (x + places.lower_new) lower p) (held (x + places.lower_gone) middle q))) (ap₂ ◌-ℤ◌ (held (x + places.upper_new) middle r) (held (x + places.upper_gone) upper s))
 
 -- ---- a plane among zeros
 module _ (P : ℕ → ℕ → ℤ) (columns : ℕ) (beside : (m n : ℕ) → columns ≤ n → P m n ≡ pos 0) where
@@ -82,175 +92,118 @@ module _ (P : ℕ → ℕ → ℤ) (columns : ℕ) (beside : (m n : ℕ) → col
   pub blank_of : (a : List ℤ) (y : ℕ) → Holds a (Q y) → Blank a columns
   blank_of a y u = record { size = u.size; low = λ x l. u.each x ∙ padded-left P y x l; high = λ x l. u.each x ∙ padded-right P columns beside y x l }
 
-  held : (a : List ℤ) (y : ℕ) → Holds a (Q y) → {x y' x' : ℕ} → y ≡ y' → x ≡ x' → at a x ≡ Q y' x'
-  held a y u {x} p q = u.each x ∙ ap₂ Q p q
-
   -- one cell more of each slope
-  module _ (w i t : ℕ) (a b rises falls rises' falls' : List ℤ) (narrow : w ≤ 127) (few : t < w)
-      (ha : Holds a (Q (129 + i + t))) (hb : Holds b (Q (128 + i - t))) (l : Slopes Q columns w t (128 + i) 0 rises falls)
-      (u : Moved (gathered a b 128 (256 + w - t) (256 + t - w) rises) rises rises' 128 (columns + w))
-      (v : Moved (gathered a b (384 - w) (256 + t - 2 * w) (256 - t) falls) falls falls' (384 - w) (columns + w)) where
-    rises-cell : (x : ℕ) → x < columns + w → at rises' (x + 128) ≡ rising Q w (t + 1) (128 + i) (256 + x)
-    rises-cell x x< =
-        let e : x + 128 + 128 - 0 ≡ 256 + x = omega arith in
-        u.done x x<
-        ∙ ap₂ ◌+ℤ◌ (l.rising_at (x + 128) (omega arith) ∙ ap (rising Q w t (128 + i)) e)
-        (ap₂ ◌-ℤ◌ (held a (129 + i + t) ha (omega arith) (omega arith)) (held b (128 + i - t) hb refl (omega arith)))
-        ∙ sym (rising-more Q w t (128 + i) (256 + x))
-
-    falls-cell : (x : ℕ) → x < columns + w → at falls' (x + (384 - w)) ≡ falling Q w (t + 1) (128 + i) (256 - w + x)
-    falls-cell x x< =
-        let e : x + (384 - w) + 0 - 128 ≡ 256 - w + x = omega arith in
-        v.done x x<
-        ∙ ap₂ ◌+ℤ◌ (l.falling_at (x + (384 - w)) (omega arith) ∙ ap (falling Q w t (128 + i)) e)
-        (ap₂ ◌-ℤ◌ (held a (129 + i + t) ha (omega arith) (omega arith)) (held b (128 + i - t) hb refl (omega arith)))
-        ∙ sym (falling-more Q w t (128 + i) (256 - w + x))
-
-    rises_by : (s : ℕ) → 128 ≤ s → Dec (s < 128 + (columns + w)) → at rises' s ≡ rising Q w (t + 1) (128 + i) (s + 128 - 0)
-    rises_by s m (yes h) =
-        let e : s - 128 + 128 ≡ s = omega arith in
-        let e' : 256 + (s - 128) ≡ s + 128 - 0 = omega arith in
-        ap (at rises') (sym e) ∙ rises-cell (s - 128) (omega arith) ∙ ap (rising Q w (t + 1) (128 + i)) e'
-    rises_by s m (no h) =
-        u.high s (omega arith) ∙ l.rising_at s (omega arith)
-        ∙ rising-right P columns beside w t (128 + i) (s + 128 - 0) (omega arith) (omega arith)
-        ∙ sym (rising-right P columns beside w (t + 1) (128 + i) (s + 128 - 0) (omega arith) (omega arith))
-
-    falls-by : (s : ℕ) → s < 384 + columns → Dec (s < 384 - w) → at falls' s ≡ falling Q w (t + 1) (128 + i) (s + 0 - 128)
-    falls-by s m (no h) =
-        let e : s - (384 - w) + (384 - w) ≡ s = omega arith in
-        let e' : 256 - w + (s - (384 - w)) ≡ s + 0 - 128 = omega arith in
-        ap (at falls') (sym e) ∙ falls-cell (s - (384 - w)) (omega arith) ∙ ap (falling Q w (t + 1) (128 + i)) e'
-    falls-by s m (yes h) =
-        v.low s h ∙ l.falling_at s (omega arith)
-        ∙ falling-left P w t (128 + i) (s + 0 - 128) (omega arith) (omega arith)
-        ∙ sym (falling-left P w (t + 1) (128 + i) (s + 0 - 128) (omega arith) (omega arith))
-
-    pub slopes-cell : Slopes Q columns w (t + 1) (128 + i) 0 rises' falls'
+  module _ (w i t : ℕ) {a b rises falls rises_next falls_next : List ℤ} (up down : GatherPlaces) (narrow : w ≤ 127) (few : t < w)
+      (ru : RisingCells MARGIN (w - t) up) (rd : FallingCells (MARGIN - w) (w - t) down)
+      (lower : Holds a (Q (ABOVE + i + 1 + t))) (upper : Holds b (Q (ABOVE + i - t))) (l : Slopes Q columns w t (ABOVE + i) 0 rises falls)
+      (u : Moved (gathered a b up rises) rises rises_next up.sums (columns + w))
+      (v : Moved (gathered a b down falls) falls falls_next down.sums (columns + w)) where
+    pub slopes-cell : Slopes Q columns w (t + 1) (ABOVE + i) 0 rises_next falls_next
     slopes-cell = record {
       length_rises = u.size;
       length_falls = v.size;
-      rising_at = λ s h. rises_by s (omega arith) (dec_lt s (128 + (columns + w)));
-      falling_at = λ s h. falls-by s (omega arith) (dec_lt s (384 - w));
+      rising_at = λ s h. moved-all u (λ p. rising Q w (t + 1) (ABOVE + i) (p + SLOPE_SHIFT - 0))
+          (λ x x<. gathered-more Q (on_right w (x + up.sums + SLOPE_SHIFT - 0)) (on_left w (x + up.sums + SLOPE_SHIFT - 0)) t (ABOVE + i) x rises up lower upper (l.rising_at (x + up.sums) (omega (arith, ru.sums))) (omega (arith, ru.sums, ru.enters)) (omega (arith, ru.sums, ru.leaves)))
+          s (λ before. absurd (omega (arith, ru.sums)))
+          (λ behind. l.rising_at s (omega arith)
+          ∙ rising-right P columns beside w t (ABOVE + i) (s + SLOPE_SHIFT - 0) (omega arith) (omega (arith, ru.sums))
+          ∙ sym (rising-right P columns beside w (t + 1) (ABOVE + i) (s + SLOPE_SHIFT - 0) (omega arith) (omega (arith, ru.sums))));
+      falling_at = λ s h. moved-all v (λ p. falling Q w (t + 1) (ABOVE + i) (p + 0 - SLOPE_SHIFT))
+          (λ x x<. gathered-more Q (on_left w (x + down.sums + 0 - SLOPE_SHIFT)) (on_right w (x + down.sums + 0 - SLOPE_SHIFT)) t (ABOVE + i) x falls down lower upper (l.falling_at (x + down.sums) (omega (arith, rd.sums))) (omega (arith, rd.sums, rd.enters)) (omega (arith, rd.sums, rd.leaves)))
+          s
+          (λ before. l.falling_at s (omega arith)
+          ∙ falling-left P w t (ABOVE + i) (s + 0 - SLOPE_SHIFT) (omega arith) (omega (arith, rd.sums))
+          ∙ sym (falling-left P w (t + 1) (ABOVE + i) (s + 0 - SLOPE_SHIFT) (omega arith) (omega (arith, rd.sums))))
+          (λ behind. absurd (omega (arith, rd.sums)));
     }
 
   -- the slopes of the next row
-  module _ (w h i m : ℕ) (a b c rises falls rises' falls' : List ℤ) (narrow : w ≤ 127) (low : h ≤ w) (turn : m ≤ 254)
-      (ha : Holds a (Q (129 + i + h))) (hb : Holds b (Q (129 + i))) (hc : Holds c (Q (129 + i - h))) (l : Slopes Q columns w h (128 + i) m rises falls)
-      (u : Moved (slid a b c (129 + m) (257 + (w - h)) (257 + w) (256 - w) (256 - (w - h)) rises) rises rises' (129 + m) (columns + w))
-      (v : Moved (slid a b c (383 - m - w) (255 - w - (w - h)) (255 - 2 * w) 256 (256 - w + (w - h)) falls) falls falls' (383 - m - w) (columns + w)) where
-    rises_next : (x : ℕ) → x < columns + w → at rises' (x + (129 + m)) ≡ rising Q w h (128 + i + 1) (256 + x)
-    rises_next x x< =
-        let e : x + (129 + m) + 128 - m ≡ 256 + x + 1 = omega arith in
-        u.done x x<
-        ∙ ap₂ ◌-ℤ◌ (ap₂ ◌+ℤ◌ (l.rising_at (x + (129 + m)) (omega arith) ∙ ap (rising Q w h (128 + i)) e) (ap₂ ◌-ℤ◌ (held a (129 + i + h) ha (omega arith) (omega arith)) (held b (129 + i) hb (omega arith) (omega arith))))
-        (ap₂ ◌-ℤ◌ (held b (129 + i) hb (omega arith) (omega arith)) (held c (129 + i - h) hc (omega arith) (omega arith)))
-        ∙ sym (rising_step Q w h low (128 + i) (256 + x) (omega arith) (omega arith))
+  module _ (w h i m : ℕ) {a b c rises falls rises_next falls_next : List ℤ} (up down : SlidePlaces) (narrow : w ≤ 127) (low : h ≤ w) (turn : m ≤ 254)
+      (ru : RisingPlaces MARGIN (m + 1) w (w - h) up) (rd : FallingPlaces (MARGIN - w) (m + 1) w (w - h) down)
+      (lower : Holds a (Q (ABOVE + i + 1 + h))) (middle : Holds b (Q (ABOVE + i + 1))) (upper : Holds c (Q (ABOVE + i + 1 - h))) (l : Slopes Q columns w h (ABOVE + i) m rises falls)
+      (u : Moved (slid a b c up rises) rises rises_next up.sums (columns + w))
+      (v : Moved (slid a b c down falls) falls falls_next down.sums (columns + w)) where
+    rises_next-is : (x : ℕ) → slid a b c up rises x ≡ rising Q w h (ABOVE + i + 1) (x + up.sums + SLOPE_SHIFT - (m + 1))
+    rises_next-is x =
+        let e : x + up.sums + SLOPE_SHIFT - m ≡ x + up.sums + SLOPE_SHIFT - (m + 1) + 1 = omega (arith, ru.sums) in
+        slid-is Q h (ABOVE + i) x rises up lower middle upper (l.rising_at (x + up.sums) (omega (arith, ru.sums)) ∙ ap (rising Q w h (ABOVE + i)) e)
+        (omega (arith, ru.sums, ru.lower_new)) (omega (arith, ru.sums, ru.lower_gone)) (omega (arith, ru.sums, ru.upper_new)) (omega (arith, ru.sums, ru.upper_gone))
+        ∙ sym (rising_step Q w h low (ABOVE + i) (x + up.sums + SLOPE_SHIFT - (m + 1)) (omega (arith, ru.sums)) (omega arith))
 
-    falls-next : (x : ℕ) → x < columns + w → at falls' (x + (383 - m - w)) ≡ falling Q w h (128 + i + 1) (255 - w + x + 1)
-    falls-next x x< =
-        let e : x + (383 - m - w) + m - 128 ≡ 255 - w + x = omega arith in
-        v.done x x<
-        ∙ ap₂ ◌-ℤ◌ (ap₂ ◌+ℤ◌ (l.falling_at (x + (383 - m - w)) (omega arith) ∙ ap (falling Q w h (128 + i)) e) (ap₂ ◌-ℤ◌ (held a (129 + i + h) ha (omega arith) (left-slope x w (w - h) narrow (omega arith))) (held b (129 + i) hb (omega arith) (left_end x w narrow))))
-        (ap₂ ◌-ℤ◌ (held b (129 + i) hb (omega arith) (right_end x w narrow)) (held c (129 + i - h) hc (omega arith) (right-slope x w (w - h) narrow)))
-        ∙ sym (falling-step Q w h low (128 + i) (255 - w + x) (omega arith) (omega arith))
+    falls_next-is : (x : ℕ) → x < columns + w → slid a b c down falls x ≡ falling Q w h (ABOVE + i + 1) (x + down.sums + (m + 1) - SLOPE_SHIFT)
+    falls_next-is x x< =
+        let e : x + down.sums + (m + 1) - SLOPE_SHIFT ≡ x + down.sums + m - SLOPE_SHIFT + 1 = omega (arith, rd.sums) in
+        slid-is Q h (ABOVE + i) x falls down lower middle upper (l.falling_at (x + down.sums) (omega (arith, rd.sums)))
+        (omega (arith, rd.sums, rd.lower_new)) (omega (arith, rd.sums, rd.lower_gone)) (omega (arith, rd.sums, rd.upper_new)) (omega (arith, rd.sums, rd.upper_gone))
+        ∙ sym (falling-step Q w h low (ABOVE + i) (x + down.sums + m - SLOPE_SHIFT) (omega (arith, rd.sums)) (omega arith))
+        ∙ ap (falling Q w h (ABOVE + i + 1)) (sym e)
 
-    rises-on : (s : ℕ) → 129 + m ≤ s → Dec (s < 129 + m + (columns + w)) → at rises' s ≡ rising Q w h (128 + i + 1) (s + 128 - (m + 1))
-    rises-on s p (yes q) =
-        let e : s - (129 + m) + (129 + m) ≡ s = omega arith in
-        let e' : 256 + (s - (129 + m)) ≡ s + 128 - (m + 1) = omega arith in
-        ap (at rises') (sym e) ∙ rises_next (s - (129 + m)) (omega arith) ∙ ap (rising Q w h (128 + i + 1)) e'
-    rises-on s p (no q) =
-        u.high s (omega arith) ∙ l.rising_at s (omega arith)
-        ∙ rising-right P columns beside w h (128 + i) (s + 128 - m) low (omega arith)
-        ∙ sym (rising-right P columns beside w h (128 + i + 1) (s + 128 - (m + 1)) low (omega arith))
-
-    falls-on : (s : ℕ) → s + (m + 1) < 384 + columns → Dec (s < 383 - m - w) → at falls' s ≡ falling Q w h (128 + i + 1) (s + (m + 1) - 128)
-    falls-on s p (no q) =
-        let e : s - (383 - m - w) + (383 - m - w) ≡ s = omega arith in
-        let e' : 255 - w + (s - (383 - m - w)) + 1 ≡ s + (m + 1) - 128 = omega arith in
-        ap (at falls') (sym e) ∙ falls-next (s - (383 - m - w)) (omega arith) ∙ ap (falling Q w h (128 + i + 1)) e'
-    falls-on s p (yes q) =
-        v.low s q ∙ l.falling_at s (omega arith)
-        ∙ falling-left P w h (128 + i) (s + m - 128) low (omega arith)
-        ∙ sym (falling-left P w h (128 + i + 1) (s + (m + 1) - 128) low (omega arith))
-
-    pub slopes-next : Slopes Q columns w h (128 + i + 1) (m + 1) rises' falls'
+    pub slopes-next : Slopes Q columns w h (ABOVE + i + 1) (m + 1) rises_next falls_next
     slopes-next = record {
       length_rises = u.size;
       length_falls = v.size;
-      rising_at = λ s p. rises-on s (omega arith) (dec_lt s (129 + m + (columns + w)));
-      falling_at = λ s p. falls-on s p (dec_lt s (383 - m - w));
+      rising_at = λ s p. moved-all u (λ q. rising Q w h (ABOVE + i + 1) (q + SLOPE_SHIFT - (m + 1))) (λ x x<. rises_next-is x)
+          s (λ before. absurd (omega (arith, ru.sums)))
+          (λ behind. l.rising_at s (omega arith)
+          ∙ rising-right P columns beside w h (ABOVE + i) (s + SLOPE_SHIFT - m) low (omega (arith, ru.sums))
+          ∙ sym (rising-right P columns beside w h (ABOVE + i + 1) (s + SLOPE_SHIFT - (m + 1)) low (omega (arith, ru.sums))));
+      falling_at = λ s p. moved-all v (λ q. falling Q w h (ABOVE + i + 1) (q + (m + 1) - SLOPE_SHIFT)) falls_next-is
+          s
+          (λ before. l.falling_at s (omega arith)
+          ∙ falling-left P w h (ABOVE + i) (s + m - SLOPE_SHIFT) low (omega (arith, rd.sums))
+          ∙ sym (falling-left P w h (ABOVE + i + 1) (s + (m + 1) - SLOPE_SHIFT) low (omega (arith, rd.sums))))
+          (λ behind. absurd (omega (arith, rd.sums)));
     }
 
--- ---- the work area, when the flat parts and then the slopes have come in
-pub work-edged : (z : Size) (P : ℕ → ℕ → ℤ) (w h i m n : ℕ) (rises falls work with-flat out : List ℤ) → m ≤ 254 →
-    Slopes (padded P) z.columns w h (128 + i) m rises falls → n ≡ z.columns →
-    with-flat ≡ tabulate z.columns (λ j. wrap (at work j +ℤ sum_to z.columns (λ k. pick (leb (column_gap z j k) (w - h)) (enter_leave z P i h k)))) →
-    out ≡ tabulate n (taken rises falls (128 + m) (384 - m) with-flat) →
-    out ≡ tabulate z.columns (λ j. wrap (at work j +ℤ edges_change z P h w i j))
-unfolding edges_change
-work-edged z P w h i m n rises falls work with-flat out turn l en ef eo =
-    eo ∙ ap (λ (k : ℕ). tabulate k (taken rises falls (128 + m) (384 - m) with-flat)) en
-    ∙ tabulate-cong z.columns (taken rises falls (128 + m) (384 - m) with-flat) (λ j. wrap (at work j +ℤ (flat j +ℤ (up j +ℤ down j)))) at-column
-  where
-    flat : ℕ → ℤ
-    flat j = sum_to z.columns (λ k. pick (leb (column_gap z j k) (w - h)) (enter_leave z P i h k))
+-- ---- what a row of a call adds to the work area
+module _ (z : Size) (P : ℕ → ℕ → ℤ) (w h i m : ℕ) {rises falls : List ℤ} (turn : m ≤ 254) (l : Slopes (padded P) z.columns w h (ABOVE + i) m rises falls) where
+  abbrev flat : ℕ → ℤ
+  flat j = sum_to z.columns (λ k. pick (leb (column_gap z j k) (w - h)) (enter_leave z P i h k))
 
-    up : ℕ → ℤ
-    up j = rising (padded P) w h (128 + i) (256 + j)
+  abbrev slanted : ℕ → ℤ
+  slanted j = rising (padded P) w h (ABOVE + i) (MARGIN + j) +ℤ falling (padded P) w h (ABOVE + i) (MARGIN + j)
 
-    down : ℕ → ℤ
-    down j = falling (padded P) w h (128 + i) (256 + j)
+  slanted-at : (j : ℕ) → j < z.columns → at rises (j + (RISING_START + m)) +ℤ at falls (j + (FALLING_START - m)) ≡ slanted j
+  slanted-at j j< =
+      let rises-there : j + (RISING_START + m) + SLOPE_SHIFT - m ≡ MARGIN + j = omega arith in
+      let falls-there : j + (FALLING_START - m) + m - SLOPE_SHIFT ≡ MARGIN + j = omega arith in
+      ap₂ ◌+ℤ◌
+      (l.rising_at (j + (RISING_START + m)) (omega arith) ∙ ap (rising (padded P) w h (ABOVE + i)) rises-there)
+      (l.falling_at (j + (FALLING_START - m)) (omega arith) ∙ ap (falling (padded P) w h (ABOVE + i)) falls-there)
 
-    at-column : (j : ℕ) → j < z.columns → taken rises falls (128 + m) (384 - m) with-flat j ≡ wrap (at work j +ℤ (flat j +ℤ (up j +ℤ down j)))
-    at-column j j< =
-        let e : j + (128 + m) + 128 - m ≡ 256 + j = omega arith in
-        let e' : j + (384 - m) + m - 128 ≡ 256 + j = omega arith in
-        ap₂ (λ (x y : ℤ). wrap (x +ℤ y))
-        (ap (λ (q : List ℤ). at q j) ef ∙ get_d_tabulate z.columns j (λ j. wrap (at work j +ℤ flat j)) (pos 0) j<)
-        (ap₂ ◌+ℤ◌ (l.rising_at (j + (128 + m)) (omega arith) ∙ ap (rising (padded P) w h (128 + i)) e) (l.falling_at (j + (384 - m)) (omega arith) ∙ ap (falling (padded P) w h (128 + i)) e'))
-        ∙ wrap-add (at work j +ℤ flat j) (up j +ℤ down j)
-        ∙ ap wrap (+ℤ_assoc (at work j) (flat j) (up j +ℤ down j))
+  -- when the flat parts and then the slopes have come in
+  pub work-edged : (n : ℕ) (work with-flat out : List ℤ) → n ≡ z.columns → with-flat ≡ tabulate z.columns (λ j. wrap (at work j +ℤ flat j)) →
+      out ≡ tabulate n (taken rises falls (RISING_START + m) (FALLING_START - m) with-flat) → out ≡ tabulate z.columns (λ j. wrap (at work j +ℤ edges_change z P h w i j))
+  unfolding edges_change
+  work-edged n work with-flat out en ef eo =
+      eo ∙ ap (λ (k : ℕ). tabulate k (taken rises falls (RISING_START + m) (FALLING_START - m) with-flat)) en
+      ∙ tabulate-cong z.columns (taken rises falls (RISING_START + m) (FALLING_START - m) with-flat) (λ j. wrap (at work j +ℤ (flat j +ℤ slanted j)))
+      (λ j j<. ap₂ (λ (x y : ℤ). wrap (x +ℤ y)) (ap (λ (q : List ℤ). at q j) ef ∙ get_d_tabulate z.columns j (λ j. wrap (at work j +ℤ flat j)) (pos 0) j<) (slanted-at j j<)
+      ∙ wrap-add (at work j +ℤ flat j) (slanted j)
+      ∙ ap wrap (+ℤ_assoc (at work j) (flat j) (slanted j)))
 
--- ---- the work area, when the tips and the slopes have come in together
-pub work-tipped : (z : Size) (P : ℕ → ℕ → ℤ) (past : (m n : ℕ) → z.rows ≤ m → P m n ≡ pos 0) (beside : (m n : ℕ) → z.columns ≤ n → P m n ≡ pos 0) (w h i m n : ℕ) (a c rises falls work out : List ℤ) →
-    m ≤ 254 → h ≤ 127 → w - h ≡ 0 → Holds a (padded P (129 + i + h)) → Holds c (padded P (128 + i - h)) → Slopes (padded P) z.columns w h (128 + i) m rises falls → n ≡ z.columns →
-    out ≡ tabulate n (taken_tips a c rises falls (128 + m) (384 - m) work) →
-    out ≡ tabulate z.columns (λ j. wrap (at work j +ℤ edges_change z P h w i j))
-unfolding edges_change
-work-tipped z P past beside w h i m n a c rises falls work out turn low tip ha hc l en eo =
-    eo ∙ ap (λ (k : ℕ). tabulate k (taken_tips a c rises falls (128 + m) (384 - m) work)) en
-    ∙ tabulate-cong z.columns (taken_tips a c rises falls (128 + m) (384 - m) work) (λ j. wrap (at work j +ℤ (flat j +ℤ (up j +ℤ down j)))) at-column
-  where
-    flat : ℕ → ℤ
-    flat j = sum_to z.columns (λ k. pick (leb (column_gap z j k) (w - h)) (enter_leave z P i h k))
-
-    up : ℕ → ℤ
-    up j = rising (padded P) w h (128 + i) (256 + j)
-
-    down : ℕ → ℤ
-    down j = falling (padded P) w h (128 + i) (256 + j)
-
-    at-column : (j : ℕ) → j < z.columns → taken_tips a c rises falls (128 + m) (384 - m) work j ≡ wrap (at work j +ℤ (flat j +ℤ (up j +ℤ down j)))
-    at-column j j< =
-        let e : j + (128 + m) + 128 - m ≡ 256 + j = omega arith in
-        let e' : j + (384 - m) + m - 128 ≡ 256 + j = omega arith in
-        let place : j + 256 ≡ 256 + j = omega arith in
-        let lower : 129 + i + h ≡ 128 + i + 1 + h = omega arith in
-        let ends : flat j ≡ padded P (128 + i + 1 + h) (256 + j) -ℤ padded P (128 + i - h) (256 + j) = ap (λ (k : ℕ). sum_to z.columns (λ q. pick (leb (column_gap z j q) k) (enter_leave z P i h q))) tip ∙ tips z P past beside h i j (omega arith) j< in
-        ap (λ (x : ℤ). wrap (at work j +ℤ x))
-        (ap₂ ◌+ℤ◌
-        (ap₂ ◌-ℤ◌ (ha.each (j + 256) ∙ ap₂ (padded P) lower place) (hc.each (j + 256) ∙ ap (padded P (128 + i - h)) place) ∙ sym ends)
-        (ap₂ ◌+ℤ◌ (l.rising_at (j + (128 + m)) (omega arith) ∙ ap (rising (padded P) w h (128 + i)) e) (l.falling_at (j + (384 - m)) (omega arith) ∙ ap (falling (padded P) w h (128 + i)) e')))
+  -- when the tips and the slopes have come in together
+  pub work-tipped : (past : (m n : ℕ) → z.rows ≤ m → P m n ≡ pos 0) (beside : (m n : ℕ) → z.columns ≤ n → P m n ≡ pos 0) (n : ℕ) (a c work out : List ℤ) → h ≤ 127 → w - h ≡ 0 →
+      Holds a (padded P (ABOVE + i + 1 + h)) → Holds c (padded P (ABOVE + i - h)) → n ≡ z.columns →
+      out ≡ tabulate n (taken_tips a c rises falls (RISING_START + m) (FALLING_START - m) work) → out ≡ tabulate z.columns (λ j. wrap (at work j +ℤ edges_change z P h w i j))
+  unfolding edges_change
+  work-tipped past beside n a c work out low tip ha hc en eo =
+      eo ∙ ap (λ (k : ℕ). tabulate k (taken_tips a c rises falls (RISING_START + m) (FALLING_START - m) work)) en
+      ∙ tabulate-cong z.columns (taken_tips a c rises falls (RISING_START + m) (FALLING_START - m) work) (λ j. wrap (at work j +ℤ (flat j +ℤ slanted j)))
+      (λ j j<.
+      let place : j + MARGIN ≡ MARGIN + j = omega arith in
+      let ends : flat j ≡ padded P (ABOVE + i + 1 + h) (MARGIN + j) -ℤ padded P (ABOVE + i - h) (MARGIN + j) =
+      ap (λ (k : ℕ). sum_to z.columns (λ q. pick (leb (column_gap z j q) k) (enter_leave z P i h q))) tip ∙ tips z P past beside h i j (omega arith) j< in
+      ap₂ (λ (x y : ℤ). wrap (at work j +ℤ (x +ℤ y)))
+      (ap₂ ◌-ℤ◌ (ha.each (j + MARGIN) ∙ ap (padded P (ABOVE + i + 1 + h)) place) (hc.each (j + MARGIN) ∙ ap (padded P (ABOVE + i - h)) place) ∙ sym ends) (slanted-at j j<))
 
 -- ---- where a loop over rows begins
-pub slopes-begin : (Q : ℕ → ℕ → ℤ) (columns w h i : ℕ) (rises falls : List ℤ) → Slopes Q columns w h (128 + i) 0 rises falls → Slopes Q columns w h (128 + (i + 0)) 0 rises falls
+pub slopes-begin : (Q : ℕ → ℕ → ℤ) (columns w h i : ℕ) (rises falls : List ℤ) → Slopes Q columns w h (ABOVE + i) 0 rises falls → Slopes Q columns w h (ABOVE + (i + 0)) 0 rises falls
 slopes-begin Q columns w h i rises falls s =
     let first : i ≡ i + 0 = omega arith in
     rw (← first) s
 
-pub holds-begin : (Q : ℕ → ℕ → ℤ) (h i : ℕ) (c : List ℤ) → Holds c (Q (128 + i - h)) → Holds c (Q (128 + (i + 0) - h))
+pub holds-begin : (Q : ℕ → ℕ → ℤ) (h i : ℕ) (c : List ℤ) → Holds c (Q (ABOVE + i - h)) → Holds c (Q (ABOVE + (i + 0) - h))
 holds-begin Q h i c s =
     let first : i ≡ i + 0 = omega arith in
     rw (← first) s

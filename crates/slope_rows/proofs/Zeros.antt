@@ -6,11 +6,12 @@ use mathlib.Core.List.{map}
 use lib.IntN.{ℤ, pos}
 use lib.LanesLaws.{map-replicate}
 use lib.ListN.{replicate}
-use Rattle.slope_loops.specs.Leans.{Blank}
+use Rattle.slope_loops.specs.Loops.{Blank}
 use Rattle.slope_rows.specs.Edges.{Slopes}
 use Rattle.slope_rows.proofs.Kept.{zeros-blank, zeros-slopes}
+use Rattle.slope_loops.specs.declared.padding.TheConstants.{ROW_LENGTH}
 
-module _ {X : Type 0} (f : X → ℤ) (n : ℕ) (some : n ≡ 1536) where
+module _ {X : Type 0} (f : X → ℤ) (n : ℕ) (some : n ≡ ROW_LENGTH) where
   zeros : (x : X) → f x ≡ pos 0 → map f (replicate n x) ≡ replicate n (pos 0)
   zeros x e = map-replicate f n x ∙ ap (replicate n) e
 

@@ -11,16 +11,19 @@ use Rattle.spec_picture.specs.Plane.{plane_number}
 use Rattle.spec_picture.specs.Checked.{checked_source}
 use Rattle.spec_rows.specs.Rows.{work_after, strip, Advanced}
 use Rattle.slope_loops.specs.Slopes.{padded, rising, falling, edges_change}
-use Rattle.slope_loops.specs.Leans.{Blank, Holds}
+use Rattle.slope_loops.specs.Loops.{Blank, Holds}
+use Rattle.slope_loops.specs.declared.padding.TheConstants.{ABOVE, ROW_LENGTH}
+use Rattle.slope_rows.specs.declared.edges.rows.RowsAfter.{RowsAfter}
 use Rattle.slope_rows.specs.declared.kept_slopes.SlantedInputs.{SlantedInputs}
+use Rattle.slope_rows.specs.declared.places.CallRow.{CallRow}
+use Rattle.slope_rows.specs.declared.places.TheConstants.{FALLING_START, RISING_START, SLOPE_SHIFT}
 
--- n cells of each slope of row y, in the m'th row of a call. A slope that rises has moved left by m places, one that falls right by m: the slopes of
--- column j stand at 128 + m + j and at 384 - m + j.
+-- n cells of each slope of row y, which have moved by m places since a call began: the slopes of column j are kept at RISING_START + m + j and at FALLING_START - m + j
 pub record Slopes (Q : ℕ → ℕ → ℤ) (columns w n y m : ℕ) (rises falls : List ℤ) : Type 0 where
-  pub length_rises : length rises ≡ 1536
-  pub length_falls : length falls ≡ 1536
-  pub rising_at : (s : ℕ) → 128 + m ≤ s → get_or rises s (pos 0) ≡ rising Q w n y (s + 128 - m)
-  pub falling_at : (s : ℕ) → s + m < 384 + columns → get_or falls s (pos 0) ≡ falling Q w n y (s + m - 128)
+  pub length_rises : length rises ≡ ROW_LENGTH
+  pub length_falls : length falls ≡ ROW_LENGTH
+  pub rising_at : (s : ℕ) → RISING_START + m ≤ s → get_or rises s (pos 0) ≡ rising Q w n y (s + SLOPE_SHIFT - m)
+  pub falling_at : (s : ℕ) → s + m < FALLING_START + columns → get_or falls s (pos 0) ≡ falling Q w n y (s + m - SLOPE_SHIFT)
 
 -- three rows with zeros around the picture's columns
 pub record Rows (columns : ℕ) (a b c : List ℤ) : Type 0 where
@@ -37,32 +40,32 @@ pub record StartAsked (x : SlantedInputs) (i : ℕ) (a b rises falls : List ℤ)
   pub inside : i < x.inputs.source.size.rows
   pub blank_a : Blank a x.inputs.source.size.columns
   pub blank_b : Blank b x.inputs.source.size.columns
-  pub slopes : Slopes (padded (plane_in x)) x.inputs.source.size.columns x.width 0 (128 + i) 0 rises falls
+  pub slopes : Slopes (padded (plane_in x)) x.inputs.source.size.columns x.width 0 (ABOVE + i) 0 rises falls
 
 -- the slopes of row i
 pub record Started (x : SlantedInputs) (i : ℕ) (a b rises falls : List ℤ) : Type 0 where
   pub blank_a : Blank a x.inputs.source.size.columns
   pub blank_b : Blank b x.inputs.source.size.columns
-  pub slopes : Slopes (padded (plane_in x)) x.inputs.source.size.columns x.width x.height (128 + i) 0 rises falls
+  pub slopes : Slopes (padded (plane_in x)) x.inputs.source.size.columns x.width x.height (ABOVE + i) 0 rises falls
 
 -- the sum at column j of a row that begins with `corner`: from a column to the next its rising slopes come in and the falling ones of the next go
 unfoldable pub across_slopes : (corner : ℤ) → (rises falls : List ℤ) → (j : ℕ) → ℤ
 across_slopes corner rises falls zero = corner
-across_slopes corner rises falls (suc j) = wrap (across_slopes corner rises falls j +ℤ (get_or rises (j + 128) (pos 0) -ℤ get_or falls (j + 385) (pos 0)))
+across_slopes corner rises falls (suc j) = wrap (across_slopes corner rises falls j +ℤ (get_or rises (j + RISING_START) (pos 0) -ℤ get_or falls (j + FALLING_START + 1) (pos 0)))
 
 -- slopes, and room for a row twice
 pub record AcrossAsked (rises falls work out : List ℤ) : Type 0 where
-  pub length_rises : length rises ≡ 1536
-  pub length_falls : length falls ≡ 1536
+  pub length_rises : length rises ≡ ROW_LENGTH
+  pub length_falls : length falls ≡ ROW_LENGTH
   pub few : length work ≤ 1024
   pub room : length out ≡ length work
 
--- the m'th row of a call, with its slopes, a work area, and room for a row
-pub record RowAsked (x : SlantedInputs) (i m : ℕ) (a b c rises falls work out : List ℤ) : Type 0 where
-  pub inside : i < x.inputs.source.size.rows
-  pub turn : m ≤ 254
+-- a row of a call, with its slopes, a work area, and room for a row
+pub record RowAsked (x : SlantedInputs) (here : CallRow) (a b c rises falls work out : List ℤ) : Type 0 where
+  pub inside : here.row < x.inputs.source.size.rows
+  pub turn : here.moved ≤ 254
   pub rows : Rows x.inputs.source.size.columns a b c
-  pub slopes : Slopes (padded (plane_in x)) x.inputs.source.size.columns x.width x.height (128 + i) m rises falls
+  pub slopes : Slopes (padded (plane_in x)) x.inputs.source.size.columns x.width x.height (ABOVE + here.row) here.moved rises falls
   pub room_work : length work ≡ x.inputs.source.size.columns
   pub room : length out ≡ x.inputs.source.size.columns
 
@@ -71,31 +74,31 @@ abbrev pub edged : SlantedInputs → (i : ℕ) → List ℤ → List ℤ
 edged x i work = tabulate x.inputs.source.size.columns (λ j. wrap (get_or work j (pos 0) +ℤ edges_change x.inputs.source.size (plane_in x) x.height x.width i j))
 
 -- the work area and the output row have moved on, and so have the slopes
-pub record RowDone (x : SlantedInputs) (i m : ℕ) (before a b c rises falls work out : List ℤ) : Type 0 where
+pub record RowDone (x : SlantedInputs) (here : CallRow) (before a b c rises falls work out : List ℤ) : Type 0 where
   pub rows : Rows x.inputs.source.size.columns a b c
-  pub slopes : Slopes (padded (plane_in x)) x.inputs.source.size.columns x.width x.height (128 + i + 1) (m + 1) rises falls
-  pub work_is : work ≡ edged x i before
-  pub output_is : out ≡ edged x i before
+  pub slopes : Slopes (padded (plane_in x)) x.inputs.source.size.columns x.width x.height (ABOVE + here.row + 1) (here.moved + 1) rises falls
+  pub work_is : work ≡ edged x here.row before
+  pub output_is : out ≡ edged x here.row before
 
 -- ---- the rows that enter and leave in the middle are kept too
-pub record TakeAsked (x : SlantedInputs) (i m : ℕ) (a c rises falls work out : List ℤ) : Type 0 where
-  pub inside : i < x.inputs.source.size.rows
-  pub turn : m ≤ 254
-  pub entering : Holds a (padded (plane_in x) (129 + i + x.height))
-  pub leaving : Holds c (padded (plane_in x) (128 + i - x.height))
-  pub slopes : Slopes (padded (plane_in x)) x.inputs.source.size.columns x.width x.height (128 + i) m rises falls
+pub record TakeAsked (x : SlantedInputs) (here : CallRow) (a c rises falls work out : List ℤ) : Type 0 where
+  pub inside : here.row < x.inputs.source.size.rows
+  pub turn : here.moved ≤ 254
+  pub entering : Holds a (padded (plane_in x) (ABOVE + here.row + 1 + x.height))
+  pub leaving : Holds c (padded (plane_in x) (ABOVE + here.row - x.height))
+  pub slopes : Slopes (padded (plane_in x)) x.inputs.source.size.columns x.width x.height (ABOVE + here.row) here.moved rises falls
   pub room_work : length work ≡ x.inputs.source.size.columns
   pub room : length out ≡ x.inputs.source.size.columns
 
 -- of a plane whose values the rows hold
-pub record LeavingAsked (holds : ℕ → Type 0) (x : SlantedInputs) (i m : ℕ) (a b c rises falls work out : List ℤ) : Type 0 where
+pub record LeavingAsked (holds : ℕ → Type 0) (x : SlantedInputs) (here : CallRow) (a b c rises falls work out : List ℤ) : Type 0 where
   pub plane : holds (plane_number x.inputs.source.plane)
-  pub row : RowAsked x i m a b c rises falls work out
-  pub leaving : Holds c (padded (plane_in x) (128 + i - x.height))
+  pub row : RowAsked x here a b c rises falls work out
+  pub leaving : Holds c (padded (plane_in x) (ABOVE + here.row - x.height))
 
-pub record LeavingDone (x : SlantedInputs) (i m : ℕ) (before a b c rises falls work out : List ℤ) : Type 0 where
-  pub row : RowDone x i m before a b c rises falls work out
-  pub leaving : Holds c (padded (plane_in x) (129 + i - x.height))
+pub record LeavingDone (x : SlantedInputs) (here : CallRow) (before a b c rises falls work out : List ℤ) : Type 0 where
+  pub row : RowDone x here before a b c rises falls work out
+  pub leaving : Holds c (padded (plane_in x) (ABOVE + here.row + 1 - x.height))
 
 -- rows of the picture behind row i, a work area, and room for those rows
 pub record ManyAsked (x : SlantedInputs) (i n : ℕ) (work out : List ℤ) : Type 0 where
@@ -104,13 +107,13 @@ pub record ManyAsked (x : SlantedInputs) (i n : ℕ) (work out : List ℤ) : Typ
   pub room : length out ≡ n * x.inputs.source.size.columns
 
 -- ---- many rows, of a plane whose values the rows hold
--- the same with the slopes of row i, and the row that leaves in the middle
-pub record AfterAsked (holds : ℕ → Type 0) (x : SlantedInputs) (i n : ℕ) (a b c rises falls work out : List ℤ) : Type 0 where
+-- the same with the slopes of the row before them, and the row that leaves in the middle
+pub record AfterAsked (holds : ℕ → Type 0) (x : SlantedInputs) (rows_after : RowsAfter) (a b c rises falls work out : List ℤ) : Type 0 where
   pub plane : holds (plane_number x.inputs.source.plane)
-  pub many : ManyAsked x i n work out
+  pub many : ManyAsked x rows_after.row rows_after.count work out
   pub rows : Rows x.inputs.source.size.columns a b c
-  pub slopes : Slopes (padded (plane_in x)) x.inputs.source.size.columns x.width x.height (128 + i) 0 rises falls
-  pub leaving : Holds c (padded (plane_in x) (128 + i - x.height))
+  pub slopes : Slopes (padded (plane_in x)) x.inputs.source.size.columns x.width x.height (ABOVE + rows_after.row) 0 rises falls
+  pub leaving : Holds c (padded (plane_in x) (ABOVE + rows_after.row - x.height))
 
 -- A window that has slopes: its height is 1 at least, which is not so of every slanted window; the first rows of the picture, one at least, a work area, and room for those rows
 pub record FreshAsked (x : SlantedInputs) (n : ℕ) (work out : List ℤ) : Type 0 where
@@ -124,9 +127,9 @@ pub record FreshAsked (x : SlantedInputs) (n : ℕ) (work out : List ℤ) : Type
 -- the slopes of row 0, a work area and room for a row, where row 0 is to come by its slopes
 pub record TopAsked (x : SlantedInputs) (fresh : Bool) (rises falls work out : List ℤ) : Type 0 where
   pub high : T fresh → 1 ≤ x.height
-  pub slopes : T fresh → Slopes (padded (plane_in x)) x.inputs.source.size.columns x.width x.height 128 0 rises falls
-  pub length_rises : length rises ≡ 1536
-  pub length_falls : length falls ≡ 1536
+  pub slopes : T fresh → Slopes (padded (plane_in x)) x.inputs.source.size.columns x.width x.height ABOVE 0 rises falls
+  pub length_rises : length rises ≡ ROW_LENGTH
+  pub length_falls : length falls ≡ ROW_LENGTH
   pub room_work : length work ≡ x.inputs.source.size.columns
   pub room : T fresh → x.inputs.source.size.columns ≤ length out
 

@@ -1,3 +1,4 @@
 pub mod Asked
 pub mod Edges
 pub mod Fits
+pub mod Places

@@ -1,4 +1,4 @@
-// A window that is no rectangle, with its height and width; and the slopes of its edges as they are kept from row to row: definitions and laws.
+// Inputs whose window is no rectangle, with its height and width.
 
 ghost use Rattle.std.specs.Prelude.{◌≡◌, IfSome};
 ghost use Rattle.spec_picture.specs.Window.{shape_of};

@@ -6,10 +6,11 @@ ghost use Rattle.spec_picture.specs.Plane.{plane_number};
 ghost use Rattle.slope_rows.specs.Edges.{StartAsked, Started, across_slopes, AcrossAsked};
 
 use crate::kept_slopes::SlantedInputs;
+use crate::places::{FALLING_START, RISING_START, falling_cells, rising_cells};
 use arithmetic::wrapping;
-use slope_loops::leans;
-use slope_loops::leans::Slope;
-use slope_loops::padding::PlaneValue;
+use slope_loops::loops;
+use slope_loops::loops::Slope;
+use slope_loops::padding::{ABOVE, PlaneValue, ROW_LENGTH};
 
 // The rows and the slopes are arrays apart here, and no struct: `slope_rows::edges::rows::rows_from` says why.
 
@@ -18,10 +19,10 @@ use slope_loops::padding::PlaneValue;
 pub fn start<S: Slope>(
     slanted: &SlantedInputs<'_>,
     i: usize,
-    a: &mut [S::Value; 1536],
-    b: &mut [S::Value; 1536],
-    rises: &mut [S; 1536],
-    falls: &mut [S; 1536],
+    a: &mut [S::Value; ROW_LENGTH],
+    b: &mut [S::Value; ROW_LENGTH],
+    rises: &mut [S; ROW_LENGTH],
+    falls: &mut [S; ROW_LENGTH],
 )
     requires { S.Value.holds (plane_number slanted.now.inputs.source.plane) × StartAsked slanted.now i (map S.Value.value a.old) (map S.Value.value b.old) (map S.sum rises.old) (map S.sum falls.old) }
     ensures { Started slanted.now i (map S.Value.value a.new) (map S.Value.value b.new) (map S.sum rises.new) (map S.sum falls.new) }
@@ -30,18 +31,19 @@ pub fn start<S: Slope>(
     let w = slanted.width;
     let n = slanted.inputs.source.size.columns + w;
     for t in 0..h {
-        S::Value::load(&slanted.inputs.source, 129 + i + t, a);
-        S::Value::load(&slanted.inputs.source, 128 + i - t, b);
-        leans::gather(a, b, n, 128, 256 + w - t, 256 + t - w, rises);
-        leans::gather(a, b, n, 384 - w, 256 + t - 2 * w, 256 - t, falls);
+        S::Value::load(&slanted.inputs.source, ABOVE + i + 1 + t, a);
+        S::Value::load(&slanted.inputs.source, ABOVE + i - t, b);
+        let far = w - t;
+        loops::gather(a, b, n, rising_cells(far), rises);
+        loops::gather(a, b, n, falling_cells(w, far), falls);
     }
 }
 
 // The sums of row 0 from its first one, `corner`: nothing lies above the row, so from column to column the rising slopes come in and the falling ones go. out is a copy.
 pub fn first<S: Slope>(
     corner: i64,
-    rises: &[S; 1536],
-    falls: &[S; 1536],
+    rises: &[S; ROW_LENGTH],
+    falls: &[S; ROW_LENGTH],
     work: &mut [i64],
     out: &mut [i64],
 )
@@ -52,7 +54,10 @@ pub fn first<S: Slope>(
     for j in 0..work.len() {
         work[j] = sum;
         out[j] = sum;
-        let change = wrapping::wrapping_sub(rises[j + 128].whole(), falls[j + 385].whole());
+        let change = wrapping::wrapping_sub(
+            rises[j + RISING_START].whole(),
+            falls[j + FALLING_START + 1].whole(),
+        );
         sum = wrapping::wrapping_add(sum, change);
     }
 }

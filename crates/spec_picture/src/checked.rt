@@ -77,3 +77,12 @@ impl<'a> CheckedInputs<'a> {
         }
     }
 }
+
+// A number for each cell of a picture of a legal size: a table, whatever it holds.
+#[derive(Clone, Copy)]
+pub struct CheckedTable<'a> {
+    pub size: Size,
+    pub numbers: &'a [i64],
+    pub ghost legal: { T (size_legal size) },
+    pub ghost full: { length numbers.now ≡ cells size },
+}

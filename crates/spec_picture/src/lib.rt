@@ -8,7 +8,7 @@ mod checked; // checked.rt: inputs that checks have passed
 mod plane; // plane.rt: the planes, by name
 mod shape; // shape.rt: the shapes of windows, by name
 
-pub use checked::{CheckedInputs, CheckedPictures, CheckedSource, CheckedWindow};
+pub use checked::{CheckedInputs, CheckedPictures, CheckedSource, CheckedTable, CheckedWindow};
 pub use plane::Plane;
 pub use shape::Shape;
 

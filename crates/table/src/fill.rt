@@ -14,11 +14,13 @@ ghost use Rattle.table.specs.Fill.{RowAsked};
 
 use crate::level_sums::next_levels;
 use crate::row_sums::{first_row, next_row};
-use plane_rows::level_rows::{copied_row, own_row};
+use plane_rows::factors::{Factors, factors_of};
+use plane_rows::level_rows::{copied, own_row};
 use plane_rows::planes;
+use plane_rows::view::view_of;
 use spec_picture::CheckedSource;
 
-// Row i of the table, from the row above it; a row of the plane's levels may be copied into the buffer.
+// Row i of the table, from the row above it; a row of ones or levels may be copied into the buffer.
 fn table_row(
     source: &CheckedSource<'_>,
     i: usize,
@@ -29,15 +31,16 @@ fn table_row(
     requires { RowAsked source.now.size i above.now buffer.old row.old }
     ensures { row.new ≡ tabulate source.now.size.columns (row_number above.now (plane_at (checked_source source.now) i)) }
 {
-    if !source.plane.is_narrow() {
-        planes::part(source, i, row);
+    let view = view_of(source);
+    let Factors::Level(factor) = factors_of(source.plane) else {
+        planes::plane_row(source, i, row);
         next_row(above, row);
         return;
-    }
-    match own_row(source, i) {
+    };
+    match own_row(&view, factor, i) {
         Some(levels) => next_levels(levels, above, row),
         None => {
-            copied_row(source, i, buffer);
+            copied(&view, factor, i, buffer);
             next_levels(buffer, above, row);
         }
     }
@@ -52,7 +55,7 @@ pub fn whole(source: &CheckedSource<'_>, table: &mut [i64])
     // Room for the widest row, since there is no heap.
     let mut levels = [0i16; 1024];
     let first = &mut table[..columns];
-    planes::part(source, 0, first);
+    planes::plane_row(source, 0, first);
     first_row(first);
     for i in 1..source.size.rows {
         let (before, rest) = table.split_at_mut(i * columns);

@@ -1,5 +1,5 @@
 // The places that count along one side of the picture.
-ghost use Rattle.std.specs.Prelude.{◌≡◌, ◌-◌, ◌≤◌};
+ghost use Rattle.std.specs.Prelude.{◌≤◌};
 
 // The places that count along one side of the picture under a shift: from `first` up to `end`; the place of g that belongs to
 // `first` is `other`.
@@ -9,13 +9,4 @@ pub struct Overlap {
     pub end: usize,
     pub other: usize,
     pub ghost ordered: { first ≤ end },
-}
-
-impl Overlap {
-    // How many places count.
-    pub fn len(self) -> usize
-        ensures { result ≡ self.end - self.first }
-    {
-        self.end - self.first
-    }
 }

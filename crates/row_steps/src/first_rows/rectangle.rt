@@ -6,11 +6,11 @@ ghost use Rattle.spec_picture.specs.Checked.{checked_source};
 ghost use Rattle.spec_rows.specs.Rows.{column_sum};
 
 use plane_rows::plane_values;
-use row_loops::change;
+use row_loops::enter_and_leave::enter_and_leave;
 use spec_picture::CheckedSource;
 use windows::clip;
 
-// Row 0: the column sums over rows 0 to a.
+// Row 0: the column sums over rows 0 to a. None leaves: past the picture's last row no cell counts.
 pub fn first(source: &CheckedSource<'_>, a: usize, work: &mut [i64])
     requires { length work.old ≡ source.now.size.columns }
     ensures { work.new ≡ tabulate source.now.size.columns (column_sum source.now.size (plane_at (checked_source source.now)) a 0) }
@@ -18,6 +18,6 @@ pub fn first(source: &CheckedSource<'_>, a: usize, work: &mut [i64])
     let end = clip::high(0, a, source.size.rows);
     plane_values::fill(work, 0);
     for m in 0..end {
-        change::exchange(source, m, None, work);
+        enter_and_leave(source, m, source.size.rows, work);
     }
 }

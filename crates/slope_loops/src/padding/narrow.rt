@@ -9,7 +9,7 @@ ghost use Rattle.spec_picture.specs.Checked.{checked_source};
 ghost use Rattle.std.proofs.Common.{arith};
 ghost use Rattle.spec_picture.proofs.Planes.{plane-level};
 
-use crate::padding::PlaneValue;
+use crate::padding::{ABOVE, MARGIN, PlaneValue, ROW_LENGTH};
 use plane_rows::level_rows::{copied_row, fill};
 use spec_picture::CheckedSource;
 
@@ -29,13 +29,13 @@ impl PlaneValue for i16 {
     }
 
     #[tactic(auto, unfolding(spec_picture::specs::Size::size_legal))]
-    fn load(source: &CheckedSource<'_>, y: usize, buf: &mut [i16; 1536]) {
-        let left = 256;
+    fn load(source: &CheckedSource<'_>, y: usize, buf: &mut [i16; ROW_LENGTH]) {
+        let left = MARGIN;
         let right = left + source.size.columns;
-        if y < 128 {
+        if y < ABOVE {
             fill(&mut buf[left..right], 0);
             return;
         }
-        copied_row(source, y - 128, &mut buf[left..right]);
+        copied_row(source, y - ABOVE, &mut buf[left..right]);
     }
 }

@@ -4,7 +4,7 @@ ghost use Rattle.std.specs.Prelude.{◌^◌, ⊤};
 ghost use Rattle.std.proofs.Common.{arith};
 ghost use Rattle.spec_picture.proofs.Planes.{plane-bound};
 
-use crate::padding::PlaneValue;
+use crate::padding::{ABOVE, MARGIN, PlaneValue, ROW_LENGTH};
 use plane_rows::{plane_values, planes};
 use spec_picture::CheckedSource;
 
@@ -24,13 +24,13 @@ impl PlaneValue for i64 {
     }
 
     #[tactic(auto, unfolding(spec_picture::specs::Size::size_legal))]
-    fn load(source: &CheckedSource<'_>, y: usize, buf: &mut [i64; 1536]) {
-        let left = 256;
+    fn load(source: &CheckedSource<'_>, y: usize, buf: &mut [i64; ROW_LENGTH]) {
+        let left = MARGIN;
         let right = left + source.size.columns;
-        if y < 128 {
+        if y < ABOVE {
             plane_values::fill(&mut buf[left..right], 0);
             return;
         }
-        planes::part(source, y - 128, &mut buf[left..right]);
+        planes::plane_row(source, y - ABOVE, &mut buf[left..right]);
     }
 }

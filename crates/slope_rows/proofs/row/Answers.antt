@@ -11,13 +11,13 @@ pub slide-requires : goal.slide-requires
 slide-requires g c =
     let x = c.args.slanted.now in
     let p = c.requires.row in
-    (search rules, (search rules, rises-slide x _ p.inside g.S.Value.PlaneValue.holds _ _ g.met.S.Value.PlaneValue.small c.requires.plane g.met.S.Slope.room p.turn p.slopes c.load.ensures c.load-2.ensures c.load-3.ensures))
+    (search rules, (search rules, rises-slide x _ p.inside g.S.Value.PlaneValue.holds _ _ g.met.S.Value.PlaneValue.small c.requires.plane g.met.S.Slope.room p.turn p.slopes c.load.ensures c.load-2.ensures c.load-3.ensures _ c.rising_places.ensures))
 
 pub slide-requires-2 : goal.slide-requires-2
 slide-requires-2 g c =
     let x = c.args.slanted.now in
     let p = c.requires.row in
-    (search rules, (search rules, falls-slide x _ p.inside g.S.Value.PlaneValue.holds _ _ g.met.S.Value.PlaneValue.small c.requires.plane g.met.S.Slope.room p.turn p.slopes c.load.ensures c.load-2.ensures c.load-3.ensures))
+    (search rules, (search rules, falls-slide x _ p.inside g.S.Value.PlaneValue.holds _ _ g.met.S.Value.PlaneValue.small c.requires.plane g.met.S.Slope.room p.turn p.slopes c.load.ensures c.load-2.ensures c.load-3.ensures _ c.falling_places.ensures))
 
 pub returns : goal.returns
 returns g c =
@@ -37,7 +37,7 @@ returns g c =
           blank_b = blank_of P columns beside _ _ middle;
           blank_c = blank_of P columns beside _ _ upper;
         };
-        slopes = slopes-next P columns beside _ _ _ _ _ _ _ _ _ _ _ limits.3 limits.2 p.turn lower middle upper p.slopes c.slide.ensures c.slide-2.ensures;
+        slopes = slopes-next P columns beside _ _ _ _ _ _ limits.3 limits.2 p.turn c.rising_places.ensures c.falling_places.ensures lower middle upper p.slopes c.slide.ensures c.slide-2.ensures;
         work_is = c.take_in.ensures.0;
         output_is = c.take_in.ensures.1;
       };

@@ -6,39 +6,49 @@ ghost use Rattle.spec_rows.specs.Rows.{strip, Advanced};
 ghost use Rattle.slope_rows.specs.Edges.{plane_in, AfterAsked, TopAsked, TopDone, FromAsked, FromDone};
 
 use crate::kept_slopes::SlantedInputs;
+use crate::places::CallRow;
 use crate::row;
 use crate::slope_starts::{first, start};
 use direct_sum::window_sums;
-use slope_loops::leans::Slope;
-use slope_loops::padding::PlaneValue;
+use slope_loops::loops::Slope;
+use slope_loops::padding::{ABOVE, PlaneValue, ROW_LENGTH};
 use spec_picture::Cell;
 
 // The rows and the slopes are arrays apart here, and no struct: `rows_from` says why.
 
-// n rows behind row i, from the slopes of row i; c has the row that leaves in the middle.
+// So many rows of the picture after one of its rows.
+#[derive(Clone, Copy)]
+pub struct RowsAfter {
+    pub row: usize,
+    pub count: usize,
+}
+
+// Rows after a row, from the slopes of that row; c has the row that leaves in the middle.
 fn after<S: Slope>(
     slanted: &SlantedInputs<'_>,
-    i: usize,
-    n: usize,
-    a: &mut [S::Value; 1536],
-    b: &mut [S::Value; 1536],
-    c: &mut [S::Value; 1536],
-    rises: &mut [S; 1536],
-    falls: &mut [S; 1536],
+    rows: RowsAfter,
+    a: &mut [S::Value; ROW_LENGTH],
+    b: &mut [S::Value; ROW_LENGTH],
+    c: &mut [S::Value; ROW_LENGTH],
+    rises: &mut [S; ROW_LENGTH],
+    falls: &mut [S; ROW_LENGTH],
     work: &mut [i64],
     out: &mut [i64],
 )
-    requires { AfterAsked S.Value.holds slanted.now i n (map S.Value.value a.old) (map S.Value.value b.old) (map S.Value.value c.old) (map S.sum rises.old) (map S.sum falls.old) work.old out.old }
-    ensures { Advanced (strip slanted.now.inputs.source.size (plane_in slanted.now) (shape_of (given slanted.now.inputs.window)) (suc i) n work.old) work.new out.new }
+    requires { AfterAsked S.Value.holds slanted.now rows (map S.Value.value a.old) (map S.Value.value b.old) (map S.Value.value c.old) (map S.sum rises.old) (map S.sum falls.old) work.old out.old }
+    ensures { Advanced (strip slanted.now.inputs.source.size (plane_in slanted.now) (shape_of (given slanted.now.inputs.window)) (suc rows.row) rows.count work.old) work.new out.new }
 {
     let columns = slanted.inputs.source.size.columns;
-    for m in 0..n {
+    for m in 0..rows.count {
         let begin = m * columns;
         let end = begin + columns;
+        let here = CallRow {
+            row: rows.row + m,
+            moved: m,
+        };
         row(
             slanted,
-            i + m,
-            m,
+            here,
             a,
             b,
             c,
@@ -54,8 +64,8 @@ fn after<S: Slope>(
 fn top_row<S: Slope>(
     fresh: bool,
     slanted: &SlantedInputs<'_>,
-    rises: &[S; 1536],
-    falls: &[S; 1536],
+    rises: &[S; ROW_LENGTH],
+    falls: &[S; ROW_LENGTH],
     work: &mut [i64],
     out: &mut [i64],
 ) -> usize
@@ -87,18 +97,18 @@ pub fn rows_from<S: Slope>(
     requires { FromAsked S.Value.holds slanted.now fresh i n work.old out.old }
     ensures { FromDone (checked_inputs slanted.now.inputs) fresh i n work.old work.new out.new }
 {
-    let mut a = [S::Value::zero(); 1536];
-    let mut b = [S::Value::zero(); 1536];
-    let mut c = [S::Value::zero(); 1536];
-    let mut rises = [S::zero(); 1536];
-    let mut falls = [S::zero(); 1536];
+    let mut a = [S::Value::zero(); ROW_LENGTH];
+    let mut b = [S::Value::zero(); ROW_LENGTH];
+    let mut c = [S::Value::zero(); ROW_LENGTH];
+    let mut rises = [S::zero(); ROW_LENGTH];
+    let mut falls = [S::zero(); ROW_LENGTH];
     start(slanted, i, &mut a, &mut b, &mut rises, &mut falls);
-    S::Value::load(&slanted.inputs.source, 128 + i - slanted.height, &mut c);
+    S::Value::load(&slanted.inputs.source, ABOVE + i - slanted.height, &mut c);
     let begin = top_row(fresh, slanted, &rises, &falls, work, out);
+    let rows = RowsAfter { row: i, count: n };
     after(
         slanted,
-        i,
-        n,
+        rows,
         &mut a,
         &mut b,
         &mut c,

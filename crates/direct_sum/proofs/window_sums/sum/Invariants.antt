@@ -8,4 +8,4 @@ use Rattle.direct_sum.proofs.WindowRows.{window_row}
 use Rattle.direct_sum.proofs.window_sums.sum.Given as goal
 
 abbrev pub invariant-loop-m : goal.invariant-loop-m
-invariant-loop-m l = l.s ≡ wrap (sum_to (l.m - l.initial.m) (λ k. window_row (checked_inputs l.inputs) l.cell.row l.cell.column (l.initial.m + k)))
+invariant-loop-m l = l.s ≡ wrap (sum_to (l.m - l.initial.m) (λ k. window_row (checked_inputs l.inputs) l.fn.cell.row l.fn.cell.column (l.initial.m + k)))

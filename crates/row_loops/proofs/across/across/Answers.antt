@@ -1,40 +1,33 @@
 -- `row_loops::across::across` meets its contract. Assumes nothing.
-use borrow.Author.Rules.{rules}
-use mathlib.Core.Path.{◌∙◌}
-use Prim.Native.Nat.{◌+◌, ◌-◌, ◌≤◌}
+use mathlib.Core.Path.{ap₂}
+use Prim.Native.Nat.{◌+◌, ◌-◌}
 use native.Mathlib.Omega.{arith}
+use lib.IntN.{◌-ℤ◌}
 use lib.ListN.{length}
-use mir.Syntax.{w64}
-use mir.Val.{SFits}
-use mir.Facts.{to_z-of_z}
-use Rattle.numbers.proofs.Writes.{slice-length}
-use Rattle.row_loops.specs.Across.{neighbour_sum}
-use Rattle.row_loops.proofs.Ranges.{range-near, written-join, written_all, written-fill, all_near}
+use Rattle.row_loops.proofs.Sliding.{slid-none, slid-on, slid_all, enters-from, enters_none, leaves-from, leaves_none}
 use Rattle.row_loops.proofs.across.across.Goals as goal
-
-pub returns-then-n-b : goal.returns-then-n-b
-returns-then-n-b c =
-    let r : SFits w64 c.total-all.result = search rules in
-    all_near c.args.work.now c.args.b c.total-all.result c.args.out.now _ (omega arith) c.total-all.ensures c.requires (simp (to_z-of_z, r) at c.fill.ensures)
-
-pub returns-then-right-left : goal.returns-then-right-left
-returns-then-right-left c =
-    let work = c.args.work.now in
-    let b = c.args.b in
-    let t = c.entering-all in
-    let r : SFits w64 t.result = search rules in
-    let o : length work - b ≤ b + 1 = omega arith in
-    let h : b + 1 ≤ length t.new.out = omega (arith, t.ensures.1.size) in
-    let filled =
-    written-fill (neighbour_sum work b) t.new.out c.fill-then-right-left.new.out (length work - b) (b + 1) t.result _ o h
-    (c.fill-then-right-left.auto.out ∙ slice-length (length work - b) (b + 1) t.new.out o h)
-    (simp (to_z-of_z, r) at c.fill-then-right-left.ensures)
-    (λ k g l. t.ensures.0 ∙ range-near work b k 0 (length work - b + b) (omega arith) (omega arith)) in
-    written_all c.requires
-    (written-join (written-join t.ensures.1 _ _ (omega arith) filled) _ _ (omega arith) c.leaving.ensures)
 
 pub returns : goal.returns
 returns c =
-    written_all c.requires
-    (written-join (written-join c.entering-low.ensures.1 _ _ (omega arith) c.sliding-high.ensures.1) _ _ (omega arith)
-    c.leaving-2.ensures)
+    let row = c.args.work.now in
+    let b = c.args.b in
+    let n = length row in
+    let reach = c.min-reach.result in
+    let low = c.min-low.result in
+    let enters = n - reach in
+    let both = enters - low in
+    let high = c.max-high.result in
+    let begun = slid-none row b reach c.total-s.result (omega arith) c.total-s.ensures c.args.out.now in
+    let entered =
+    slid-on begun low (omega arith) (omega arith) c.slide-s.ensures
+    (λ k l. ap₂ ◌-ℤ◌ (enters-from row b (0 + k) reach (reach + low - reach) k (omega arith) (omega arith) (omega arith)) (leaves_none row b (0 + k) (omega arith))) in
+    let exchanged =
+    slid-on entered enters (omega arith) (omega arith) c.slide-s-2.ensures
+    (λ k l. ap₂ ◌-ℤ◌ (enters-from row b (low + k) (n - both) (n - (n - both)) k (omega arith) (omega arith) (omega arith)) (leaves-from row b (low + k) 0 both k (omega arith) (omega arith) (omega arith))) in
+    let kept =
+    slid-on exchanged high (omega arith) (omega arith) c.slide-s-3.ensures
+    (λ k l. ap₂ ◌-ℤ◌ (enters_none row b (enters + k) (omega arith)) (leaves_none row b (enters + k) (omega arith))) in
+    let left =
+    slid-on kept n (omega arith) (omega arith) c.slide.ensures
+    (λ k l. ap₂ ◌-ℤ◌ (enters_none row b (high + k) (omega arith)) (leaves-from row b (high + k) both (both + (n - high) - both) k (omega arith) (omega arith) (omega arith))) in
+    slid_all row b reach c.total-s.result (omega arith) c.total-s.ensures c.requires left

@@ -1,7 +1,9 @@
--- What the loops of `row_loops::across::total` keep. Assumes nothing.
+-- What the loop of `row_loops::across::total` keeps. Assumes nothing.
 use mathlib.Core.Path.{◌≡◌}
-use Rattle.row_loops.specs.Across.{range_sum}
+use Rattle.numbers.specs.Sum.{sum_to}
+use Rattle.numbers.specs.Wrap.{wrap}
+use Rattle.numbers.proofs.Writes.{at}
 use Rattle.row_loops.proofs.across.total.Given as goal
 
-abbrev pub invariant-loop-x : goal.invariant-loop-x
-invariant-loop-x l = l.s ≡ range_sum l.work 0 l.x-index
+abbrev pub invariant-loop-k : goal.invariant-loop-k
+invariant-loop-k l = l.s ≡ wrap (sum_to l.k (at l.work))

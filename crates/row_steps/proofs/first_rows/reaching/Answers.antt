@@ -18,7 +18,7 @@ pub returns : goal.returns
 returns c =
     let plane : ℕ → ℕ → ℤ = plane_at (checked_source c.args.inputs.now.source) in
     let columns = c.args.inputs.now.source.size.columns in
-    let part = c.part in
+    let part = c.plane_row in
     let cells = part.new.out in
     let whole : length cells ≡ columns = part.auto.out ∙ c.requires.room in
     added-across columns (reach (shape_of (given c.args.inputs.now.window)) c.args.m) (plane c.args.m) c.args.work.now _ cells _ whole

@@ -2,12 +2,13 @@
 use Prim.Native.Nat.{◌+◌}
 use mathlib.Core.List.{map}
 use Rattle.slope_loops.specs.Slopes.{padded}
-use Rattle.slope_loops.specs.Leans.{Blank}
+use Rattle.slope_loops.specs.Loops.{Blank}
 use Rattle.slope_rows.specs.Edges.{plane_in, Slopes}
+use Rattle.slope_loops.specs.declared.padding.TheConstants.{ABOVE}
 use Rattle.slope_rows.proofs.slope_starts.start.Given as goal
 
 abbrev pub invariant-loop-t : goal.invariant-loop-t
 invariant-loop-t g l =
     let S = g.S.Slope in
     let V = g.S.Value.PlaneValue in
-    Blank (map V.value l.a) l.slanted.inputs.source.size.columns × Blank (map V.value l.b) l.slanted.inputs.source.size.columns × Slopes (padded (plane_in l.slanted)) l.slanted.inputs.source.size.columns l.slanted.width l.t (128 + l.i) 0 (map S.sum l.rises) (map S.sum l.falls)
+    Blank (map V.value l.a) l.slanted.inputs.source.size.columns × Blank (map V.value l.b) l.slanted.inputs.source.size.columns × Slopes (padded (plane_in l.slanted)) l.slanted.inputs.source.size.columns l.slanted.width l.t (ABOVE + l.i) 0 (map S.sum l.rises) (map S.sum l.falls)

@@ -28,8 +28,8 @@ slice_bounds-first-end c = row-fits c.args.source.now.size _ c.args.source.now.l
 pub slice_bounds-first-end-2 : goal.slice_bounds-first-end-2
 slice_bounds-first-end-2 c = sym (length-take-le _ _ (row-fits c.args.source.now.size _ c.args.source.now.legal c.requires))
 
-pub part-requires : goal.part-requires
-part-requires c = omega (arith, length-take-le _ _ (row-fits c.args.source.now.size _ c.args.source.now.legal c.requires))
+pub plane_row-requires : goal.plane_row-requires
+plane_row-requires c = omega (arith, length-take-le _ _ (row-fits c.args.source.now.size _ c.args.source.now.legal c.requires))
 
 pub slice_bounds-levels-end : goal.slice_bounds-levels-end
 slice_bounds-levels-end c = omega (arith, (in-limits c.args.source.now.size c.args.source.now.legal).few_columns, c.loop-i.invariant.buffer)
@@ -56,8 +56,8 @@ loop-i-init c =
       below = omega arith;
       within = lim.some_rows;
       buffer = refl;
-      full = simp (length-append, length-drop) (omega (arith, c.first_row.auto.row, c.part.auto.out, width, fits, c.requires));
-      lines = first-rows (plane_at plane) (plane-bound plane source.levels_f source.levels_g) source.size.columns lim.few_columns _ _ (row-of-part (plane_at plane) 0 width [] _ _ c.part.ensures c.first_row.ensures);
+      full = simp (length-append, length-drop) (omega (arith, c.first_row.auto.row, c.plane_row.auto.out, width, fits, c.requires));
+      lines = first-rows (plane_at plane) (plane-bound plane source.levels_f source.levels_g) source.size.columns lim.few_columns _ _ (row-of-part (plane_at plane) 0 refl [] _ _ c.plane_row.ensures c.first_row.ensures);
     }
 
 pub loop-i-preserved : goal.loop-i-preserved

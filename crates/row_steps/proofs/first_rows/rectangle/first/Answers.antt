@@ -5,8 +5,7 @@ use lib.IntN.{ℤ}
 use Rattle.spec_picture.proofs.Found.{limits}
 use Rattle.spec_picture.specs.Picture.{Source, plane_at}
 use Rattle.spec_picture.specs.Checked.{checked_source}
-use Rattle.spec_picture.proofs.Planes.{plane-bound}
-use Rattle.plane_rows.specs.Lines.{row_if_any}
+use Rattle.spec_picture.proofs.Planes.{plane-bound, plane-past}
 use Rattle.row_steps.proofs.Columns.{columns-none, columns-more, columns-all}
 use Rattle.row_steps.proofs.first_rows.rectangle.first.Goals as goal
 
@@ -20,13 +19,12 @@ loop-m-init c =
     (omega arith, columns-none plane c.args.source.now.size.columns _ _ c.requires c.fill.ensures)
 
 pub loop-m-preserved : goal.loop-m-preserved
-unfolding row_if_any
 loop-m-preserved c =
     let pictures : Source = checked_source c.args.source.now in
     let plane : ℕ → ℕ → ℤ = plane_at pictures in
     let l = c.loop-m in (
       omega arith,
-      columns-more plane c.args.source.now.size.columns l.m _ _ l.invariant.1 c.exchange.ensures,
+      columns-more plane c.args.source.now.size.columns l.m c.args.source.now.size.rows _ _ (λ j. plane-past pictures _ j (omega arith)) l.invariant.1 c.enter_and_leave.ensures,
     )
 
 pub returns : goal.returns

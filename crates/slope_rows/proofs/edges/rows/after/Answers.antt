@@ -14,6 +14,7 @@ use Rattle.slope_rows.proofs.Kept.{slopes-begin, holds-begin}
 use Rattle.slope_rows.specs.Edges.{plane_in}
 use Rattle.slope_rows.proofs.Advances.{passed-more}
 use Rattle.spec_rows.proofs.Strips.{partly_none, partly-all}
+use Rattle.slope_loops.specs.declared.padding.TheConstants.{ABOVE}
 use Rattle.slope_rows.proofs.edges.rows.after.Goals as goal
 
 pub loop-m-init : goal.loop-m-init
@@ -23,10 +24,10 @@ loop-m-init g c =
       omega arith,
       refl,
       c.requires.many.room_work,
-      partly_none z (plane_in x) (shape_of (given x.inputs.window)) (suc c.args.i) c.args.work.now c.args.out.now,
+      partly_none z (plane_in x) (shape_of (given x.inputs.window)) (suc c.args.rows.row) c.args.work.now c.args.out.now,
       c.requires.rows,
-      slopes-begin (padded (plane_in x)) z.columns _ _ c.args.i _ _ c.requires.slopes,
-      holds-begin (padded (plane_in x)) _ c.args.i _ c.requires.leaving,
+      slopes-begin (padded (plane_in x)) z.columns _ _ c.args.rows.row _ _ c.requires.slopes,
+      holds-begin (padded (plane_in x)) _ c.args.rows.row _ c.requires.leaving,
     )
 
 pub row-requires : goal.row-requires
@@ -35,7 +36,7 @@ row-requires g c =
     let l = c.loop-m in
     let z = c.args.slanted.now.inputs.source.size in
     let begin = l.m * z.columns in
-    let ends : begin + z.columns ≤ length l.out = omega (arith, l.invariant.1, c.requires.many.room, line-end l.m c.args.n z.columns c.loop-m-test.true) in
+    let ends : begin + z.columns ≤ length l.out = omega (arith, l.invariant.1, c.requires.many.room, line-end l.m c.args.rows.count z.columns c.loop-m-test.true) in
     let inside = c.loop-m-test.true in
     let span : begin + z.columns - begin ≡ z.columns = omega arith in (
       search rules,
@@ -62,26 +63,25 @@ loop-m-preserved g c =
     let l = c.loop-m in
     let z = c.args.slanted.now.inputs.source.size in
     let begin = l.m * z.columns in
-    let ends : begin + z.columns ≤ length l.out = omega (arith, l.invariant.1, c.requires.many.room, line-end l.m c.args.n z.columns c.loop-m-test.true) in
+    let ends : begin + z.columns ≤ length l.out = omega (arith, l.invariant.1, c.requires.many.room, line-end l.m c.args.rows.count z.columns c.loop-m-test.true) in
     let r = c.row.ensures.row in
     let leaves = c.row.ensures.leaving in
-    let next : 128 + (c.args.i + l.m) + 1 ≡ 128 + (c.args.i + (l.m + 1)) = omega arith in
-    let below : 129 + (c.args.i + l.m) ≡ 128 + (c.args.i + (l.m + 1)) = omega arith in (
+    let next : ABOVE + (c.args.rows.row + l.m) + 1 ≡ ABOVE + (c.args.rows.row + (l.m + 1)) = omega arith in (
       omega (arith, c.loop-m-test.true),
-      c.out-1.given.1 ∙ l.invariant.1,
-      c.work-1.given ∙ l.invariant.2,
-      passed-more x c.args.i l.m begin c.args.work.now l.work l.out _ _ l.invariant.3 refl ends r.work_is r.output_is,
+      omega arith,
+      omega arith,
+      passed-more x c.args.rows.row l.m begin c.args.work.now l.work l.out _ _ l.invariant.3 refl ends r.work_is r.output_is,
       r.rows,
       rw next at r.slopes,
-      rw below at leaves,
+      rw next at leaves,
     )
 
 pub returns : goal.returns
 returns g c =
     let x = c.args.slanted.now in
     let l = c.loop-m in
-    partly-all x.inputs.source.size (plane_in x) (shape_of (given x.inputs.window)) (suc c.args.i) c.args.work.now c.args.n l.m l.work l.out l.invariant.3 (omega (arith, l.invariant.0, c.loop-m-test.false)) (l.invariant.1 ∙ c.requires.many.room)
+    partly-all x.inputs.source.size (plane_in x) (shape_of (given x.inputs.window)) (suc c.args.rows.row) c.args.work.now c.args.rows.count l.m l.work l.out l.invariant.3 (omega (arith, l.invariant.0, c.loop-m-test.false)) (l.invariant.1 ∙ c.requires.many.room)
 
-pub overflow_add-i : goal.overflow_add-i
-overflow_add-i g c =
+pub overflow_add-here : goal.overflow_add-here
+overflow_add-here g c =
     record { fits = omega (arith, c.requires.many.rows, c.loop-m-test.true, (limits c.args.slanted.now.inputs.source).few_rows) }

@@ -13,6 +13,7 @@ use Rattle.slope_rows.specs.Edges.{plane_in}
 use Rattle.slope_rows.proofs.Kept.{blank_of}
 use Rattle.slope_rows.proofs.Across.{behind-fits, rows-done}
 use Rattle.slope_rows.proofs.Zeros.{blank, no-slopes}
+use Rattle.slope_loops.specs.declared.padding.TheConstants.{ABOVE, ROW_LENGTH}
 use Rattle.slope_rows.proofs.edges.rows.rows_from.Goals as goal
 
 pub start-requires : goal.start-requires
@@ -26,9 +27,9 @@ start-requires g c =
           c.requires.plane,
           record {
             inside = omega (arith, c.requires.rows);
-            blank_a = blank g.S.Value.PlaneValue.value 1536 refl columns c.zero-a.result c.zero-a.ensures;
-            blank_b = blank g.S.Value.PlaneValue.value 1536 refl columns c.zero-b.result c.zero-b.ensures;
-            slopes = no-slopes g.S.Slope.sum 1536 refl (padded (plane_in x)) columns x.width (128 + c.args.i) c.zero-rises.result c.zero-falls.result c.zero-rises.ensures c.zero-falls.ensures;
+            blank_a = blank g.S.Value.PlaneValue.value ROW_LENGTH refl columns c.zero-a.result c.zero-a.ensures;
+            blank_b = blank g.S.Value.PlaneValue.value ROW_LENGTH refl columns c.zero-b.result c.zero-b.ensures;
+            slopes = no-slopes g.S.Slope.sum ROW_LENGTH refl (padded (plane_in x)) columns x.width (ABOVE + c.args.i) c.zero-rises.result c.zero-falls.result c.zero-rises.ensures c.zero-falls.ensures;
           },
         ),
       ),
@@ -43,7 +44,7 @@ overflow_sub-i g c = omega (arith, c.args.slanted.now.fits.low, c.args.slanted.n
 pub load-requires : goal.load-requires
 load-requires g c =
     let columns = c.args.slanted.now.inputs.source.size.columns in
-    (g.met.S.Value.PlaneValue.row_fits, (c.requires.plane, blank g.S.Value.PlaneValue.value 1536 refl columns c.zero-c.result c.zero-c.ensures))
+    (g.met.S.Value.PlaneValue.row_fits, (c.requires.plane, blank g.S.Value.PlaneValue.value ROW_LENGTH refl columns c.zero-c.result c.zero-c.ensures))
 
 pub after-requires : goal.after-requires
 after-requires g c =
@@ -65,7 +66,7 @@ after-requires g c =
             room_work = top.auto.work ∙ c.requires.room_work;
             room = slice-length top.result end top.new.out (omega (arith, kept, f.0)) (omega arith) ∙ omega (arith, kept, f.1);
           };
-          rows = record { blank_a = r.blank_a; blank_b = r.blank_b; blank_c = blank_of (plane_in x) columns (plane-beside (checked_source x.inputs.source)) _ (128 + c.args.i - x.height) leaves };
+          rows = record { blank_a = r.blank_a; blank_b = r.blank_b; blank_c = blank_of (plane_in x) columns (plane-beside (checked_source x.inputs.source)) _ (ABOVE + c.args.i - x.height) leaves };
           slopes = r.slopes;
           leaving = leaves;
         },

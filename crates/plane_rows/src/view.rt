@@ -1,0 +1,42 @@
+// Checked inputs with the rows and the columns that count: found once, and handed on.
+ghost use Rattle.std.specs.Prelude.{◌≡◌, ◌&&◌, leb, ltb, min, max};
+ghost use Rattle.plane_rows.specs.Views.{Counting};
+
+use crate::overlaps::{Overlap, overlap_of};
+use spec_picture::CheckedSource;
+
+// Two pictures, a shift and a plane, and which rows and columns count: "A cell (m, n) counts when it and (m+u, n+v) are both inside the picture."
+#[derive(Clone, Copy)]
+pub struct View<'a> {
+    pub source: CheckedSource<'a>,
+    pub rows: Overlap,
+    pub columns: Overlap,
+    pub ghost counting: { Counting source.size source.shift rows columns },
+}
+
+// The view of checked inputs.
+pub fn view_of<'a>(source: &CheckedSource<'a>) -> View<'a>
+    ensures { result.source ≡ source.now }
+{
+    View {
+        source: *source,
+        rows: overlap_of(source.size.rows, source.shift.down),
+        columns: overlap_of(source.size.columns, source.shift.right),
+    }
+}
+
+impl View<'_> {
+    // Some cell of the row may count.
+    pub fn has_row(&self, row: usize) -> bool
+        ensures { result ≡ (leb self.now.rows.first row && ltb row self.now.rows.end) }
+    {
+        self.rows.first <= row && row < self.rows.end
+    }
+
+    // The place among the columns that count that is next to a column: of the columns between two, those that count lie between their two places.
+    pub fn clip(&self, column: usize) -> usize
+        ensures { result ≡ min (max column self.now.columns.first) self.now.columns.end }
+    {
+        column.max(self.columns.first).min(self.columns.end)
+    }
+}
