@@ -7,12 +7,19 @@ use crate::advance;
 use spec_picture::CheckedInputs;
 use windows::clip;
 
-// The sums of the rows of the block that begins at row i: 16 rows, or those up to the picture's last.
-pub fn next(i: usize, inputs: &CheckedInputs<'_>, work: &mut [i64], block: &mut [i64])
-    requires { BlockAsked (checked_inputs inputs.now) i work.old block.old }
+// The sums of the rows of the block that begins at row i: 16 rows, or those up to the picture's last. The areas are whole arrays, so that their types tell that any picture's
+// rows fit, and no caller has to; the picture's own are at their fronts.
+pub fn next(i: usize, inputs: &CheckedInputs<'_>, work: &mut [i64; 1024], block: &mut [i64; 16384])
+    requires { BlockAsked (checked_inputs inputs.now) i work.old }
     ensures { Block (checked_inputs inputs.now) i work.new block.new }
 {
     let columns = inputs.source.size.columns;
     let n = clip::high(i, 15, inputs.source.size.rows) - i;
-    advance::many(i, inputs, n, work, &mut block[..n * columns]);
+    advance::many(
+        i,
+        inputs,
+        n,
+        &mut work[..columns],
+        &mut block[..n * columns],
+    );
 }

@@ -1,6 +1,6 @@
 -- N and S of cells that have a count, and their means.
 -- Assumes nothing.
-use Rattle.std.specs.Prelude.{◌≡◌, ℕ, ◌*◌, ◌^◌, ◌≤◌, ◌<◌, List, length, get_or, ℤ, pos, nat_abs, ◌≤ℤ◌}
+use Rattle.std.specs.Prelude.{ℕ, ◌*◌, ◌^◌, ◌≤◌, ◌<◌, List, length, get_or, ℤ, pos, nat_abs, ◌≤ℤ◌}
 use Rattle.std.specs.Int.Signed.{mag}
 use Rattle.numbers.specs.Grid.{tabulate}
 use Rattle.numbers.specs.Round.{nearest}
@@ -21,10 +21,10 @@ pub record LevelMean (n s : ℤ) : Type 0 where
   pub small : nat_abs s ≤ 32768 * nat_abs n
   pub level : mag (nearest s (nat_abs n)) < 2 ^ 15
 
--- N and S of cells, and room for their means
+-- N and S of cells at the fronts of two areas, and room for their means
 pub record MeansAsked (n s out : List ℤ) : Type 0 where
-  pub length_n : length n ≡ length out
-  pub length_s : length s ≡ length out
+  pub room_n : length out ≤ length n
+  pub room_s : length out ≤ length s
   pub each : (j : ℕ) → j < length out → LevelMean (get_or n j (pos 0)) (get_or s j (pos 0))
 
 -- the means of the cells

@@ -85,7 +85,11 @@ module _ (test : ℕ → ℕ → Bool) (columns i m n : ℕ) (rest : n - i ≡ m
 abbrev pub steady_at : Inputs → ℕ → ℕ → Bool
 steady_at x i j = is_steady (voice (six_sums x i j))
 
-pub whole-search : (x : Inputs) → find_cell (steady_at x) x.source.size.columns 0 (x.source.size.rows - 0) ≡ first_steady x
+-- the search from row k on
+abbrev pub steady_from : Inputs → ℕ → Option Cell
+steady_from x k = find_cell (steady_at x) x.source.size.columns k (x.source.size.rows - k)
+
+pub whole-search : (x : Inputs) → steady_from x 0 ≡ first_steady x
 unfolding first_steady
 whole-search x =
     let m : x.source.size.rows - 0 ≡ x.source.size.rows = omega arith in

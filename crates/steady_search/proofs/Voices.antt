@@ -5,12 +5,10 @@ use mathlib.Core.Bool.{Bool, false}
 use mathlib.Core.List.{List}
 use Prim.Native.Nat.{ℕ, ◌+◌, ◌*◌, ◌<◌}
 use native.Mathlib.Omega.{arith}
-use lib.ListN.{get_or}
 use lib.IntN.{pos, ℤ, *ℤ-zero}
 use lib.Signed.{≤ℤ_refl}
 use Rattle.spec_picture.specs.Refusal.{Outcome, refused, answered}
 use Rattle.spec_picture.specs.Picture.{Inputs}
-use Rattle.spec_picture.specs.Direct.{direct_sum}
 use Rattle.spec_picture.proofs.Found.{Checked}
 use Rattle.spec_statistics.specs.declared.Sums.{Sums}
 use Rattle.spec_statistics.specs.SixSums.{on_plane, six_sums, impossible}
@@ -19,6 +17,7 @@ use Rattle.spec_statistics.specs.Voice.{Voice, voice, voice_call}
 use Rattle.spec_statistics.proofs.Bounds.{possible-has, possible-of, answers}
 use Rattle.spec_statistics.proofs.Possible.{sums-possible}
 use Rattle.spec_smoothing.specs.Steady.{is_steady, find_cell, first_steady}
+use Rattle.row_session.specs.Blocks.{RowSums}
 use Rattle.steady_search.specs.Hearing.{first_sums, sums_at, steady_in}
 use Rattle.steady_search.proofs.Places.{same-cells}
 use Rattle.steady_search.proofs.Searching.{steady_at}
@@ -68,19 +67,21 @@ pub first-by-answers : (x : Inputs) → Checked x → first_steady x ≡ find_ce
 unfolding first_steady
 first-by-answers x c = simp (voice_answers x c)
 
--- ---- from N, S and A of the rows from row i on
-module _ (x : Inputs) (c : Checked x) (i m : ℕ) (n s a : List ℤ)
-    (n-is : (r j : ℕ) → r < m → j < x.source.size.columns → get_or n (r * x.source.size.columns + j) (pos 0) ≡ direct_sum (on_plane x 0) (i + r) j)
-    (s-is : (r j : ℕ) → r < m → j < x.source.size.columns → get_or s (r * x.source.size.columns + j) (pos 0) ≡ direct_sum (on_plane x 1) (i + r) j)
-    (a-is : (r j : ℕ) → r < m → j < x.source.size.columns → get_or a (r * x.source.size.columns + j) (pos 0) ≡ direct_sum (on_plane x 3) (i + r) j) where
-  sums-are : (r j : ℕ) → r < m → j < x.source.size.columns → sums_at n s a (r * x.source.size.columns + j) ≡ first_sums (six_sums x (i + r) j).n (six_sums x (i + r) j).s (six_sums x (i + r) j).a
-  sums-are r j h l = rw (n-is r j h l, s-is r j h l, a-is r j h l)
+-- ---- from N, S and A of m rows from row i on
+pub record RowsHeard (x : Inputs) (i m : ℕ) (n s a : List ℤ) : Type 0 where
+  pub counted : RowSums (on_plane x 0) i m n
+  pub summed : RowSums (on_plane x 1) i m s
+  pub squared : RowSums (on_plane x 3) i m a
 
-  pub rows-possible : (r j : ℕ) → r < m → j < x.source.size.columns → impossible (sums_at n s a (r * x.source.size.columns + j)) ≡ false
-  rows-possible r j h l = ap impossible (sums-are r j h l) ∙ possible-first (six_sums x (i + r) j) (cell-possible x c (i + r) j)
+module _ (x : Inputs) (i m : ℕ) (n s a : List ℤ) (h : RowsHeard x i m n s a) where
+  sums-are : (r j : ℕ) → r < m → j < x.source.size.columns → sums_at n s a (r * x.source.size.columns + j) ≡ first_sums (six_sums x (i + r) j).n (six_sums x (i + r) j).s (six_sums x (i + r) j).a
+  sums-are r j k l = rw (h.counted r j k l, h.summed r j k l, h.squared r j k l)
+
+  pub rows-possible : Checked x → (r j : ℕ) → r < m → j < x.source.size.columns → impossible (sums_at n s a (r * x.source.size.columns + j)) ≡ false
+  rows-possible c r j k l = ap impossible (sums-are r j k l) ∙ possible-first (six_sums x (i + r) j) (cell-possible x c (i + r) j)
 
   -- the first steady cell of those numbers is that of the rows
   pub rows-steady : find_cell (steady_in x.source.size.columns n s a) x.source.size.columns 0 m ≡ find_cell (λ r. steady_at x (i + r)) x.source.size.columns 0 m
   rows-steady =
       same-cells (steady_in x.source.size.columns n s a) (λ r. steady_at x (i + r)) x.source.size.columns 0 m
-      (λ r j h l. ap is_steady (ap voice (sums-are r j (omega (arith, h)) l) ∙ voice-first (six_sums x (i + r) j)))
+      (λ r j k l. ap is_steady (ap voice (sums-are r j (omega (arith, k)) l) ∙ voice-first (six_sums x (i + r) j)))

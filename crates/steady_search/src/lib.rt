@@ -24,5 +24,5 @@ pub fn steady(
     ensures { optional_outcome result ≡ steady_call size f.now g.now window shift }
 {
     let checked = check_steady(size, f, g, window, shift)?;
-    Ok(search::whole(&checked))
+    Ok(search::by_blocks(&checked))
 }

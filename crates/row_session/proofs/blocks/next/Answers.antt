@@ -1,23 +1,32 @@
 -- `row_session::blocks::next` meets its contract. Assumes nothing.
-use mathlib.Core.Path.{◌≡◌, ◌∙◌}
+use mathlib.Core.Path.{◌∙◌}
 use Prim.Native.Nat.{◌-◌, ◌*◌, ◌≤◌}
 use native.Mathlib.Omega.{arith}
-use native.Mathlib.Nat.{mul-le-mul_right}
-use lib.ListN.{length, take}
 use lib.Seq.{length-take-le}
-use Rattle.spec_picture.proofs.Found.{checked}
-use Rattle.spec_picture.specs.Picture.{Inputs}
+use Rattle.spec_picture.proofs.Found.{limits, checked}
 use Rattle.spec_picture.specs.Checked.{checked_inputs}
-use Rattle.row_session.specs.Blocks.{rows_in}
-use Rattle.row_session.proofs.BlockSums.{block_made}
+use Rattle.row_session.proofs.BlockSums.{block-fits, block_made}
+use Rattle.row_session.proofs.blocks.next.Goals.{After-high}
 use Rattle.row_session.proofs.blocks.next.Goals as goal
+
+fits : (c : After-high) → (c.high.result - c.args.i) * c.args.inputs.now.source.size.columns ≤ 16384
+fits c = block-fits (checked_inputs c.args.inputs.now) (checked c.args.inputs.now) (c.high.result - c.args.i) (omega (arith, c.high.ensures))
+
+pub slice_bounds-many-end : goal.slice_bounds-many-end
+slice_bounds-many-end c = (limits c.args.inputs.now.source).few_columns
+
+pub overflow_mul-n : goal.overflow_mul-n
+overflow_mul-n c = record { fits = omega (arith, fits (goal.at.overflow_mul-n c).After-high) }
+
+pub slice_bounds-many-end-3 : goal.slice_bounds-many-end-3
+slice_bounds-many-end-3 c = fits (goal.at.slice_bounds-many-end-3 c).After-high
 
 pub returns : goal.returns
 returns c =
-    let given : Inputs = checked_inputs c.args.inputs.now in
-    let rows_of : c.high.result - c.args.i ≡ rows_in given c.args.i = rw c.high.ensures in
-    let few : (c.high.result - c.args.i) * c.args.inputs.now.source.size.columns ≤ 16 * c.args.inputs.now.source.size.columns = mul-le-mul_right c.args.inputs.now.source.size.columns (omega (arith, c.high.ensures)) in
-    let lent : length (take ((c.high.result - c.args.i) * c.args.inputs.now.source.size.columns) c.args.block.now) ≡ (c.high.result - c.args.i) * c.args.inputs.now.source.size.columns = length-take-le ((c.high.result - c.args.i) * c.args.inputs.now.source.size.columns) c.args.block.now (omega (arith, few, c.requires.room)) in
-    let m = c.many in
     let i = c.args.i in
-    block_made given (checked c.args.inputs.now) i (c.high.result - i) c.args.work.now m.new.work c.args.block.now m.new.out rows_of c.requires.before m.ensures (omega (arith, few, c.requires.room)) (m.auto.out ∙ lent)
+    let n = c.high.result - i in
+    let many = c.many in
+    let narrow = (limits c.args.inputs.now.source).few_columns in
+    let room = fits (goal.at.returns c).After-high in
+    block_made (checked_inputs c.args.inputs.now) (checked c.args.inputs.now) i n c.args.work.now many.new.work c.args.block.now many.new.out (rw c.high.ensures) c.requires.row c.requires.before many.ensures
+    (omega arith) (many.auto.work ∙ length-take-le _ _ (omega arith)) (omega arith) (many.auto.out ∙ length-take-le _ _ (omega arith))

@@ -1,103 +1,92 @@
 -- `smoothing::mean_rows::every_row` meets its contract. Assumes nothing.
-use mathlib.Core.Path.{◌≡◌, refl, ◌∙◌, subst}
-use Prim.Native.Nat.{ℕ, ◌+◌, ◌-◌, ◌*◌, ◌≤◌, ◌<◌, min}
+use mathlib.Core.Path.{◌≡◌, refl, ◌∙◌, ap, subst}
+use Prim.Native.Nat.{ℕ, ◌+◌, ◌-◌, ◌*◌, ◌≤◌, min}
 use native.Mathlib.Omega.{arith}
-use lib.ListN.{length}
-use borrow.Rule.Slice.PartMut.{put_mid}
-use Rattle.numbers.proofs.Lines.{Lines, lines_none, lines-all}
+use lib.ListN.{length, take, drop}
+use Rattle.numbers.specs.Grid.{grid}
+use Rattle.numbers.proofs.Lines.{Lines, lines-all}
 use Rattle.numbers.proofs.Writes.{part_length}
-use Rattle.spec_picture.proofs.Found.{Checked, checked}
-use Rattle.spec_picture.specs.Checked.{given, checked_inputs}
+use Rattle.spec_picture.proofs.Found.{checked}
+use Rattle.spec_picture.specs.Checked.{checked_inputs}
 use Rattle.spec_picture.specs.Picture.{Inputs}
 use Rattle.spec_statistics.specs.SixSums.{on_plane, six_sums}
 use Rattle.spec_statistics.specs.Moments.{mean}
-use Rattle.spec_smoothing.specs.Smoothing.{alone, smoothed}
-use Rattle.row_session.specs.Blocks.{rows_in}
-use Rattle.row_session.proofs.BlockSums.{ready-behind}
-use Rattle.smoothing.proofs.Kept.{Before}
-use Rattle.smoothing.proofs.BlockMeans.{put-lines, lent-length, alone-block, block-end, block-asked, block-mean}
+use Rattle.spec_smoothing.specs.Smoothing.{smoothed}
+use Rattle.row_session.specs.Blocks.{RowSums}
+use Rattle.row_session.proofs.BlockSums.{block-fits, block_sums, ready-behind}
+use Rattle.smoothing.proofs.BlockLines.{put-lines, lent-length}
+use Rattle.smoothing.proofs.BlockMeans.{block-end, block-asked, block-mean}
+use Rattle.smoothing.proofs.mean_rows.every_row.Goals.{After-high}
 use Rattle.smoothing.proofs.mean_rows.every_row.Goals as goal
 
-pub loop-block-init : goal.loop-block-init
-loop-block-init c =
-    let picture : Inputs = alone c.args.inputs.now.source.size c.args.inputs.now.source.f.now (given c.args.inputs.now.window) in
-    let none : 0 ≡ min 0 c.args.inputs.now.source.size.rows = omega arith in
-    record {
-      written = subst (Lines (λ i j. mean (six_sums picture i j)) _ _) none (lines_none _ _ _);
-      full = c.requires.picture.full;
-      ready_counts = λ h. tt;
-      ready_totals = λ h. tt;
-      room_counts = c.requires.room_counts;
-      room_totals = c.requires.room_totals;
-      room_n = c.requires.room_n;
-      room_s = c.requires.room_s;
-    }
+-- in the block of m rows from row i on
+module _ (c : After-high) where
+  abbrev x : Inputs
+  x = checked_inputs c.args.inputs.now
 
-pub slice_bounds-row_means-end-in-loop-block-4 : goal.slice_bounds-row_means-end-in-loop-block-4
-slice_bounds-row_means-end-in-loop-block-4 c =
-    let picture : Inputs = alone c.args.inputs.now.source.size c.args.inputs.now.source.f.now (given c.args.inputs.now.window) in
-    let l = c.loop-block in
-    let i : ℕ = 16 * l.block in
-    let below : i < c.args.inputs.now.source.size.rows = omega (arith, c.loop-block-test.true, c.div_ceil-block-end.ensures) in
-    let is : c.high.result - i ≡ rows_in picture i = rw c.high.ensures in
-    omega (arith, l.invariant.full, block-end picture i (c.high.result - i) is below)
+  abbrev i : ℕ
+  i = 16 * c.loop-block.block
+
+  abbrev m : ℕ
+  m = c.high.result - i
+
+  abbrev start : ℕ
+  start = i * x.source.size.columns
+
+  abbrev end : ℕ
+  end = start + m * x.source.size.columns
+
+  within : i + m ≤ x.source.size.rows
+  within = omega (arith, c.high.ensures, c.loop-block-test.true, c.div_ceil-block-end.ensures)
+
+  ends : end ≤ length c.loop-block.out
+  ends = omega (arith, c.loop-block.invariant.full, block-end x i m within)
+
+  fits : m * x.source.size.columns ≤ 16384
+  fits = block-fits x (checked c.args.inputs.now) m (omega (arith, c.high.ensures))
+
+  counted : RowSums (on_plane x 0) i m c.next.new.block
+  counted = block_sums (on_plane x 0) _ c.on_plane-ones.ensures i m (rw c.high.ensures) c.next.ensures
+
+  summed : RowSums (on_plane x 1) i m c.next-in-loop-block.new.block
+  summed = block_sums (on_plane x 1) _ c.on_plane-levels.ensures i m (rw c.high.ensures) c.next-in-loop-block.ensures
+
+  room : length (take (end - start) (drop start c.loop-block.out)) ≡ m * x.source.size.columns
+  room = lent-length start (m * x.source.size.columns) c.loop-block.out ends
+
+pub slice_bounds-row_means-end-in-loop-block-2 : goal.slice_bounds-row_means-end-in-loop-block-2
+slice_bounds-row_means-end-in-loop-block-2 c = ends (goal.at.slice_bounds-row_means-end-in-loop-block-2 c).After-high
 
 pub row_means-requires : goal.row_means-requires
 row_means-requires c =
-    let x : Inputs = checked_inputs c.args.inputs.now in
-    let picture : Inputs = alone c.args.inputs.now.source.size c.args.inputs.now.source.f.now (given c.args.inputs.now.window) in
-    let l = c.loop-block in
-    let z = c.args.inputs.now.source.size in
-    let i : ℕ = 16 * l.block in
-    let m = c.high.result - i in
-    let below : i < z.rows = omega (arith, c.loop-block-test.true, c.div_ceil-block-end.ensures) in
-    let is : m ≡ rows_in picture i = rw c.high.ensures in
-    let ends : i * z.columns + m * z.columns ≤ length l.out = omega (arith, l.invariant.full, block-end picture i m is below) in
-    block-asked z c.args.inputs.now.source.f.now (given c.args.inputs.now.window) (subst Checked c.requires.picture.alone (checked c.args.inputs.now)) i m is _ _ _ _ _
-    (alone-block x _ 0 c.on_plane-ones.ensures c.requires.picture.alone i _ _ c.next.ensures)
-    (alone-block x _ 1 c.on_plane-levels.ensures c.requires.picture.alone i _ _ c.next-in-loop-block.ensures)
-    (c.next.auto.block ∙ l.invariant.room_n)
-    (c.next-in-loop-block.auto.block ∙ l.invariant.room_s)
-    (lent-length (i * z.columns) (m * z.columns) l.out ends)
+    let b = (goal.at.row_means-requires c).After-high in
+    let few = fits b in
+    block-asked (x b) (checked c.args.inputs.now) c.requires.alone (i b) (m b) (within b) _ _ _ (counted b) (summed b) (room b) (omega arith) (omega arith)
 
 pub loop-block-preserved : goal.loop-block-preserved
 loop-block-preserved c =
-    let x : Inputs = checked_inputs c.args.inputs.now in
-    let picture : Inputs = alone c.args.inputs.now.source.size c.args.inputs.now.source.f.now (given c.args.inputs.now.window) in
+    let b = (goal.at.loop-block-preserved c).After-high in
+    let z = (x b).source.size in
+    let f = λ (i j : ℕ). mean (six_sums (x b) i j) in
     let l = c.loop-block in
-    let z = c.args.inputs.now.source.size in
-    let i : ℕ = 16 * l.block in
-    let m = c.high.result - i in
-    let below : i < z.rows = omega (arith, c.loop-block-test.true, c.div_ceil-block-end.ensures) in
-    let is : m ≡ rows_in picture i = rw c.high.ensures in
-    let ends : i * z.columns + m * z.columns ≤ length l.out = omega (arith, l.invariant.full, block-end picture i m is below) in
-    let in_n = alone-block x _ 0 c.on_plane-ones.ensures c.requires.picture.alone i _ _ c.next.ensures in
-    let in_s = alone-block x _ 1 c.on_plane-levels.ensures c.requires.picture.alone i _ _ c.next-in-loop-block.ensures in
-    let room = lent-length (i * z.columns) (m * z.columns) l.out ends in
-    let above : min i z.rows ≡ i = omega (arith, below) in
-    let next : i + m ≡ min (i + 16) z.rows = omega (arith, c.high.ensures, below) in
-    let on : i + 16 ≡ 16 * (l.block + 1) = omega arith in
-    let rows = block-mean z c.args.inputs.now.source.f.now (given c.args.inputs.now.window) (subst Checked c.requires.picture.alone (checked c.args.inputs.now)) i m is _ _ _ _ _ in_n in_s (c.next.auto.block ∙ l.invariant.room_n) (c.next-in-loop-block.auto.block ∙ l.invariant.room_s) room c.row_means.new.out c.row_means.ensures in
-    let start = i * z.columns in
-    let end = start + m * z.columns in
-    let span : m * z.columns ≡ end - start = omega arith in
-    let before : Before picture c.next.new.work c.next-in-loop-block.new.work c.next.new.block c.next-in-loop-block.new.block (put_mid start (end - start) l.out c.row_means.new.out) (i + 16) = record {
-      written = subst (Lines (λ i j. mean (six_sums picture i j)) z.columns _) next (put-lines _ z.columns i m start end l.out c.row_means.new.out (rw above at l.invariant.written) refl refl ends (c.row_means.auto.out ∙ room) rows);
-      full = part_length start end l.out c.row_means.new.out (omega arith) ends (c.row_means.auto.out ∙ room ∙ span) ∙ l.invariant.full;
-      ready_counts = ready-behind (on_plane picture 0) i _ _ in_n;
-      ready_totals = ready-behind (on_plane picture 1) i _ _ in_s;
-      room_counts = c.next.auto.work ∙ l.invariant.room_counts;
-      room_totals = c.next-in-loop-block.auto.work ∙ l.invariant.room_totals;
-      room_n = c.next.auto.block ∙ l.invariant.room_n;
-      room_s = c.next-in-loop-block.auto.block ∙ l.invariant.room_s;
-    } in
-    subst (Before picture _ _ _ _ _) on before
+    let part = c.row_means.new.out in
+    let written = c.row_means.auto.out ∙ room b in
+    let above : min (i b) z.rows ≡ i b = omega (arith, within b) in
+    let below : i b + m b ≡ min (16 * (l.block + 1)) z.rows = omega (arith, c.high.ensures, within b) in
+    let span : m b * z.columns ≡ end b - start b = omega arith in
+    let rows = block-mean (x b) (checked c.args.inputs.now) c.requires.alone (i b) (m b) (within b) _ _ _ (counted b) (summed b) (room b) part c.row_means.ensures in
+    record {
+      written = subst (Lines f z.columns _) below (put-lines f z.columns (i b) (m b) (start b) (end b) l.out part (rw above at l.invariant.written) refl refl (ends b) written rows);
+      full = part_length (start b) (end b) l.out part (omega arith) (ends b) (written ∙ span) ∙ l.invariant.full;
+      counts = ready-behind c.next.ensures _ (omega arith);
+      totals = ready-behind c.next-in-loop-block.ensures _ (omega arith);
+    }
 
 pub returns : goal.returns
 unfolding smoothed
 returns c =
-    let picture : Inputs = alone c.args.inputs.now.source.size c.args.inputs.now.source.f.now (given c.args.inputs.now.window) in
-    let l = c.loop-block in
     let z = c.args.inputs.now.source.size in
+    let l = c.loop-block in
     let all : min (16 * l.block) z.rows ≡ z.rows = omega (arith, c.loop-block-test.false, c.div_ceil-block-end.ensures) in
-    lines-all (λ i j. mean (six_sums picture i j)) z.columns l.out z.rows (rw all at l.invariant.written) l.invariant.full
+    lines-all (λ i j. mean (six_sums (checked_inputs c.args.inputs.now) i j)) z.columns l.out z.rows (rw all at l.invariant.written) l.invariant.full
+    ∙ ap (λ (x : Inputs). grid z.rows z.columns (λ i j. mean (six_sums x i j))) c.requires.alone

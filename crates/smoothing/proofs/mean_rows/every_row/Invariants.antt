@@ -1,9 +1,20 @@
 -- What the loops of `smoothing::mean_rows::every_row` keep. Assumes nothing.
-use Prim.Native.Nat.{◌*◌}
-use Rattle.spec_picture.specs.Checked.{given}
-use Rattle.spec_smoothing.specs.Smoothing.{alone}
-use Rattle.smoothing.proofs.Kept.{Before}
+use mathlib.Core.Path.{◌≡◌}
+use Prim.Native.Nat.{◌*◌, min}
+use lib.ListN.{length}
+use Rattle.numbers.proofs.Lines.{Lines}
+use Rattle.spec_picture.specs.Size.{cells}
+use Rattle.spec_picture.specs.Checked.{checked_inputs}
+use Rattle.spec_statistics.specs.SixSums.{six_sums}
+use Rattle.spec_statistics.specs.Moments.{mean}
+use Rattle.row_session.specs.Blocks.{ready}
 use Rattle.smoothing.proofs.mean_rows.every_row.Given as goal
 
+-- the means of the rows above the block, and the work areas ready for it
 abbrev pub invariant-loop-block : goal.invariant-loop-block
-invariant-loop-block l = Before (alone l.inputs.source.size l.inputs.source.f.now (given l.inputs.window)) l.counts l.totals l.n l.s l.out (16 * l.block)
+invariant-loop-block l = record {
+  written : Lines (λ i j. mean (six_sums (checked_inputs l.inputs) i j)) l.inputs.source.size.columns l.out (min (16 * l.block) l.inputs.source.size.rows);
+  full : length l.out ≡ cells l.inputs.source.size;
+  counts : ready (checked_inputs l.ones) (16 * l.block) l.counts;
+  totals : ready (checked_inputs l.levels) (16 * l.block) l.totals;
+}
