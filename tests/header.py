@@ -45,7 +45,7 @@ VERSIONS = [
 # Where each constant of the header stands as a literal, `@` for its digits; a run of blanks matches any other.
 CONSTANTS = {
     "LS_OK": [(BINDING, "OK: i32 = @;")],
-    "LS_REFUSED_SIZE": [(LINES, "    Size = @,"), (CONDITIONS, "@ when not (size_legal z)"), (REFUSALS, " Size = @,")],
+    "LS_REFUSED_SIZE": [(LINES, "    Size = @,"), (CONDITIONS, "@ when not (frame_legal z)"), (REFUSALS, " Size = @,")],
     "LS_REFUSED_PICTURE": [(LINES, "    Length = @,"), (CONDITIONS, "@ when not (eqb (length f) (cells z))"), (REFUSALS, " Picture = @,")],
     "LS_REFUSED_WINDOW": [(LINES, "    Window = @,"), (CONDITIONS, "@ when not (window_legal w)"), (REFUSALS, " Window = @,")],
     "LS_REFUSED_SHIFT": [(LINES, "    Shift = @,"), (CONDITIONS, "@ when not (shift_legal d)"), (REFUSALS, " Shift = @,")],
@@ -54,7 +54,7 @@ CONSTANTS = {
     "LS_REFUSED_REQUEST": [(LINES, "    Position = @,"), (CONDITIONS, "@ when (ltb z.rows position"), (REFUSALS, " Request = @,")],
     "LS_REFUSED_AREA": [(LINES, "    Area = @,"), (CONDITIONS, "@ when not (eqb given wanted)"), (REFUSALS, " Area = @,")],
     "LS_REFUSED_SUMS": [(LINES, "    Sums = @,"), (SIX_SUMS, "(@ when impossible z)"), (REFUSALS, " Sums = @,")],
-    "LS_REFUSED_TEXT": [(LINES, "    Text = @,"), (PANEL, "framed z w None = refused @")],
+    "LS_REFUSED_TEXT": [(LINES, "    Text = @,"), (PANEL, "windowed z w None = refused @")],
     "LS_EMPTY": [(REPLIES, "const EMPTY: i32 = @;"), (BINDING, "const EMPTY: i32 = @;")],
     "LS_FLAT": [(REPLIES, "const FLAT: i32 = @;"), (BINDING, "const FLAT: i32 = @;")],
     "LS_NOWHERE": [(REPLIES, "const NOWHERE: i32 = @;"), (BINDING, "const NOWHERE: i32 = @;")],
@@ -69,8 +69,8 @@ CONSTANTS = {
     "LS_PLANE_PRODUCT": [(PLANES, "@ => Ok(Plane::Product),"), (SIX_SUMS, " p = direct_sum (on_plane x @)"), (TYPES, "PRODUCT: Plane = Plane(@)")],
     "LS_STEADY": [(REPLIES, "const STEADY: u32 = @;"), (BINDING, "const STEADY: u32 = @;")],
     "LS_GRAINY": [(REPLIES, "const GRAINY: u32 = @;")],
-    "LS_MAX_ROWS": [("crates/spec_picture/specs/Size.antt", "leb z.rows @"), (TYPES, "MAX_ROWS: usize = @;")],
-    "LS_MAX_COLUMNS": [("crates/spec_picture/specs/Size.antt", "leb z.columns @"), (TYPES, "MAX_COLUMNS: usize = @;")],
+    "LS_MAX_ROWS": [("crates/spec_picture/specs/Frame.antt", "leb z.rows @"), (TYPES, "MAX_ROWS: usize = @;")],
+    "LS_MAX_COLUMNS": [("crates/spec_picture/specs/Frame.antt", "leb z.columns @"), (TYPES, "MAX_COLUMNS: usize = @;")],
     "LS_MAX_DOWN": [("crates/spec_picture/specs/Picture.antt", "(pos @) d.down"), (TYPES, "MAX_DOWN: i32 = @;")],
     "LS_MAX_RIGHT": [("crates/spec_picture/specs/Picture.antt", "(pos @) d.right"), (TYPES, "MAX_RIGHT: i32 = @;")],
     "LS_MAX_WINDOW": [("crates/spec_picture/specs/Window.antt", "(k +ℤ h) (pos @)"), (TYPES, "MAX_WINDOW: i32 = @;")],

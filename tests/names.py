@@ -117,7 +117,7 @@ def crates_in(text):
 
 
 def code_in(texts):
-    """The files of code of each crate, by their modules: `lib`, `legal_sizes`, `steps::step`."""
+    """The files of code of each crate, by their modules: `lib`, `legal_frames`, `steps::step`."""
     code = {}
     for path, text in texts.items():
         if kind(path) == "rt":
@@ -274,14 +274,14 @@ def all_wrong(texts):
 
 # What is done to which text, as a pattern and what takes its place.
 DAMAGES = [
-    ("a definition renamed", "crates/spec_picture/specs/Size.antt", r"\bsize_legal :", "size_allowed :"),
+    ("a definition renamed", "crates/spec_picture/specs/Frame.antt", r"\bframe_legal :", "frame_allowed :"),
     ("a theorem renamed", "crates/spec_picture/proofs/Refusals.antt", r"\bdirect-order :", "direct-checks :"),
     ("a field renamed", "crates/agreement/specs/Agreement.antt", r"\bjoined_length :", "joined_size :"),
-    ("a function renamed", "crates/checks/src/legal_sizes.rt", r"fn size_legal\(", "fn size_allowed("),
-    ("a function in a comment alone", "crates/checks/src/legal_sizes.rt", r"pub fn size_legal\(", "// fn size_legal\npub fn legal("),
+    ("a function renamed", "crates/checks/src/legal_frames.rt", r"fn frame_legal\(", "fn frame_allowed("),
+    ("a function in a comment alone", "crates/checks/src/legal_frames.rt", r"pub fn frame_legal\(", "// fn frame_legal\npub fn legal("),
     ("another field", TRACE, r"`joined_length`", "`joined-length`"),
     ("a law that is not there", DECISIONS, r"`direct-fits`", "`direct-fit`"),
-    ("another definition", TRACE, r"spec_picture\.Size\.size_legal", "spec_picture.Size.legal"),
+    ("another definition", TRACE, r"spec_picture\.Frame\.frame_legal", "spec_picture.Frame.legal"),
     ("another file of laws", TRACE, r"spec_picture\.Refusals\.direct-order", "spec_picture.Calls.direct-order"),
     ("another module", TRACE, r"row_steps::step::add_gain", "row_steps::slanted::add_gain"),
     ("another edit", TRACE, r"spec_picture/plane_6`", "spec_picture/plane_7`"),
@@ -300,7 +300,7 @@ DAMAGES = [
     ("a crate missing", CRATES, r"(?m)^plane_rows:.*$", ""),
     ("a crate that rests on one below it", CRATES, r"(?m)^windows:", "windows: panel_text"),
     ("a path in a comment of the code", "crates/checks/src/lib.rt", r"\A", "// crates/picture/specs has them.\n"),
-    ("a path in a comment of a definition", "crates/spec_picture/specs/Size.antt", r"\A", "-- crates/picture/specs has them.\n"),
+    ("a path in a comment of a definition", "crates/spec_picture/specs/Frame.antt", r"\A", "-- crates/picture/specs has them.\n"),
     ("a law in the first line of an edit", "crates/numbers/must-fail/toward_zero.edit", r"`floor-law`", "`floors-law`"),
     ("a path in the first line of an edit", "crates/spec_picture/must-fail/plane_6.edit", r"\A", "# crates/picture/specs has them.\n"),
 ]
@@ -309,7 +309,7 @@ DAMAGES = [
 MOVES = [
     ("an edit renamed", "crates/spec_picture/must-fail/plane_6.edit", "crates/spec_picture/must-fail/plane_7.edit"),
     ("an edit that no line names", None, "crates/spec_picture/must-fail/plane_7.edit"),
-    ("a file of definitions renamed", "crates/spec_picture/specs/Size.antt", "crates/spec_picture/specs/Sizes.antt"),
+    ("a file of definitions renamed", "crates/spec_picture/specs/Frame.antt", "crates/spec_picture/specs/Frames.antt"),
     ("a module renamed", "crates/row_steps/src/step.rt", "crates/row_steps/src/gain.rt"),
     ("a sample renamed", "samples/hill.txt", "samples/valley.txt"),
 ]

@@ -13,7 +13,7 @@ use Rattle.numbers.specs.Grid.{tabulate, grid, rows_from}
 use Rattle.numbers.proofs.Grids.{length-tabulate, get_d_tabulate, length-rows, get_or-grid, rows_join}
 use Rattle.spec_picture.specs.Refusal.{Filling, answered, refusal, outcome, ◌when◌}
 use Rattle.spec_picture.specs.Window.{Shape, Slanted, rectangle, slanted, shape_of}
-use Rattle.spec_picture.specs.Size.{cells}
+use Rattle.spec_picture.specs.Frame.{cells}
 use Rattle.spec_picture.specs.Picture.{Levels, Inputs, plane_at}
 use Rattle.spec_picture.specs.Conditions.{accepted, input_checks, check7, check8}
 use Rattle.spec_picture.specs.Direct.{window_sum, direct_sum}
@@ -48,8 +48,8 @@ fits_below rows position request e = go (ltb rows position) refl e
         omega arith
 
 module _ (x : Inputs) (ok : accepted x) (hf : Levels x.source.f) (hg : Levels x.source.g) where
-  lim : InLimits x.source.size
-  lim = in-limits x.source.size (accepted-has x ok).size
+  lim : InLimits x.source.frame
+  lim = in-limits x.source.frame (accepted-has x ok).frame
 
   abbrev shape : Shape
   shape = shape_of x.window
@@ -60,9 +60,9 @@ module _ (x : Inputs) (ok : accepted x) (hf : Levels x.source.f) (hg : Levels x.
   -- what holds after every list of calls
   record Good (s : Progress) : Type 0 where
     position_is : s.position ≡ s.granted
-    within : s.granted ≤ x.source.size.rows
-    joined_is : s.joined ≡ grid s.granted x.source.size.columns (window_sum x.source.size shape P)
-    ready : Ready x.source.size P lim (plane-bound x.source hf hg) shape s.granted s.work
+    within : s.granted ≤ x.source.frame.rows
+    joined_is : s.joined ≡ grid s.granted x.source.frame.columns (window_sum x.source.frame shape P)
+    ready : Ready x.source.frame P lim (plane-bound x.source hf hg) shape s.granted s.work
 
   good-fresh : (work : List ℤ) → Good (fresh work)
   good-fresh work = record { position_is = refl; within = omega arith; joined_is = unfold rows_from in refl; ready = tt }
@@ -79,20 +79,20 @@ module _ (x : Inputs) (ok : accepted x) (hf : Levels x.source.f) (hg : Levels x.
       left : (v : Option ℕ) → RowOutcome → Progress
       left v r = record { position = r.position; work = r.work; granted = s.granted + count_of v c; joined = s.joined ++ rows_of v r }
 
-      room : refusal (row_checks x s.granted c.request s.work c.output) ≡ none → s.granted + c.request ≤ x.source.size.rows
+      room : refusal (row_checks x s.granted c.request s.work c.output) ≡ none → s.granted + c.request ≤ x.source.frame.rows
       room e =
-          let rest = check8 x.source.size.columns (length s.work) ∷ check8 (c.request * x.source.size.columns) (length c.output) ∷ [] in
-          let e7 = sym (pass_all (input_checks x) (check7 x.source.size s.granted c.request ∷ rest) ok) ∙ e in
-          fits_below x.source.size.rows s.granted c.request (none-head 7 (ltb x.source.size.rows s.granted || ltb (x.source.size.rows - s.granted) c.request) rest e7)
+          let rest = check8 x.source.frame.columns (length s.work) ∷ check8 (c.request * x.source.frame.columns) (length c.output) ∷ [] in
+          let e7 = sym (pass_all (input_checks x) (check7 x.source.frame s.granted c.request ∷ rest) ok) ∙ e in
+          fits_below x.source.frame.rows s.granted c.request (none-head 7 (ltb x.source.frame.rows s.granted || ltb (x.source.frame.rows - s.granted) c.request) rest e7)
 
       after_none : refusal (row_checks x s.granted c.request s.work c.output) ≡ none → Good (left none (row_result x none s.granted c.request s.work c.output))
       after_none e =
-          let d = strip-done x.source.size P lim (plane-bound x.source hf hg) shape s.granted c.request s.work g.ready in
+          let d = strip-done x.source.frame P lim (plane-bound x.source hf hg) shape s.granted c.request s.work g.ready in
           let z : 0 + s.granted ≡ s.granted = omega arith in
           record {
             position_is = refl;
             within = room e;
-            joined_is = ap₂ ◌++◌ g.joined_is (d.rows ∙ ap (λ (k : ℕ). rows_from k c.request x.source.size.columns (window_sum x.source.size shape P)) (sym z)) ∙ sym (rows_join 0 s.granted c.request x.source.size.columns (window_sum x.source.size shape P));
+            joined_is = ap₂ ◌++◌ g.joined_is (d.rows ∙ ap (λ (k : ℕ). rows_from k c.request x.source.frame.columns (window_sum x.source.frame shape P)) (sym z)) ∙ sym (rows_join 0 s.granted c.request x.source.frame.columns (window_sum x.source.frame shape P));
             ready = d.ready;
           }
 
@@ -115,18 +115,18 @@ module _ (x : Inputs) (ok : accepted x) (hf : Levels x.source.f) (hg : Levels x.
   good-after [] s g = g
   good-after (c ∷ cs) s g = good-after cs (next x s c) (good-next s c g)
 
-  agree : (area : List ℤ) → length area ≡ cells x.source.size → (s : Progress) → Good s → Agreement x area s
+  agree : (area : List ℤ) → length area ≡ cells x.source.frame → (s : Progress) → Good s → Agreement x area s
   unfolding mean_call variance_call deviation_call voice_call coefficient_call
   agree area e s g = record {
     position_is = g.position_is;
     within = g.within;
-    joined_length = ap length g.joined_is ∙ length-rows 0 s.granted x.source.size.columns (window_sum x.source.size shape P);
+    joined_length = ap length g.joined_is ∙ length-rows 0 s.granted x.source.frame.columns (window_sum x.source.frame shape P);
     joined_direct = λ i j hi hj. direct i j hi hj;
     joined_call = λ i j hi hj. direct-answers x i j ok (omega (arith, g.within)) hj ∙ ap answered (sym (direct i j hi hj));
     joined_read = λ i j hi hj. reading i j (omega (arith, g.within)) hj ∙ ap answered (sym (direct i j hi hj));
-    work_length = λ i e. ap length (held i e) ∙ length-tabulate x.source.size.columns (work_value x.source.size P shape i);
-    work_rectangle = λ i j a b e hj is. number i j e hj ∙ ap (λ (t : Shape). work_value x.source.size P t i j) is ∙ of-rectangle i j a b;
-    work_slanted = λ i j o e hj is. number i j e hj ∙ ap (λ (t : Shape). work_value x.source.size P t i j) is ∙ of-slanted i j o is;
+    work_length = λ i e. ap length (held i e) ∙ length-tabulate x.source.frame.columns (work_value x.source.frame P shape i);
+    work_rectangle = λ i j a b e hj is. number i j e hj ∙ ap (λ (t : Shape). work_value x.source.frame P t i j) is ∙ of-rectangle i j a b;
+    work_slanted = λ i j o e hj is. number i j e hj ∙ ap (λ (t : Shape). work_value x.source.frame P t i j) is ∙ of-slanted i j o is;
     next_answer = λ c. row-answers x s.position c.request s.work c.output ∙ ap (λ (p : ℕ). outcome (refusal (row_checks x p c.request s.work c.output)) c.request) g.position_is;
     table_direct = λ i j hi hj. reading i j hi hj ∙ sym (direct-answers x i j ok hi hj);
     mean_answers = λ i j hi hj. answers (six_sums x i j) (unless_empty (six_sums x i j) (mean (six_sums x i j))) (never i j);
@@ -141,29 +141,29 @@ module _ (x : Inputs) (ok : accepted x) (hf : Levels x.source.f) (hg : Levels x.
       never i j = sums-possible x hf hg (accepted-has x ok).window i j
 
       -- the work area after row i
-      held : (i : ℕ) → s.granted ≡ suc i → s.work ≡ tabulate x.source.size.columns (work_value x.source.size P shape i)
-      held i e = subst (λ (n : ℕ). Ready x.source.size P lim (plane-bound x.source hf hg) shape n s.work) e g.ready
+      held : (i : ℕ) → s.granted ≡ suc i → s.work ≡ tabulate x.source.frame.columns (work_value x.source.frame P shape i)
+      held i e = subst (λ (n : ℕ). Ready x.source.frame P lim (plane-bound x.source hf hg) shape n s.work) e g.ready
 
-      number : (i j : ℕ) → s.granted ≡ suc i → j < x.source.size.columns → get_or s.work j (pos 0) ≡ work_value x.source.size P shape i j
-      number i j e hj = ap (λ (l : List ℤ). get_or l j (pos 0)) (held i e) ∙ get_d_tabulate x.source.size.columns j (work_value x.source.size P shape i) (pos 0) hj
+      number : (i j : ℕ) → s.granted ≡ suc i → j < x.source.frame.columns → get_or s.work j (pos 0) ≡ work_value x.source.frame P shape i j
+      number i j e hj = ap (λ (l : List ℤ). get_or l j (pos 0)) (held i e) ∙ get_d_tabulate x.source.frame.columns j (work_value x.source.frame P shape i) (pos 0) hj
 
-      of-rectangle : (i j a b : ℕ) → work_value x.source.size P (rectangle a b) i j ≡ column_sum x.source.size P a i j
+      of-rectangle : (i j a b : ℕ) → work_value x.source.frame P (rectangle a b) i j ≡ column_sum x.source.frame P a i j
       of-rectangle i j a b = unfold work_value in refl
 
-      of-slanted : (i j : ℕ) (o : Slanted) → shape ≡ slanted o → work_value x.source.size P (slanted o) i j ≡ direct_sum x i j
+      of-slanted : (i j : ℕ) (o : Slanted) → shape ≡ slanted o → work_value x.source.frame P (slanted o) i j ≡ direct_sum x i j
       of-slanted i j o is =
-          let sums : work_value x.source.size P (slanted o) i j ≡ window_sum x.source.size (slanted o) P i j = unfold work_value in refl in
-          sums ∙ ap (λ (t : Shape). window_sum x.source.size t P i j) (sym is) ∙ sym (unfold direct_sum in refl)
+          let sums : work_value x.source.frame P (slanted o) i j ≡ window_sum x.source.frame (slanted o) P i j = unfold work_value in refl in
+          sums ∙ ap (λ (t : Shape). window_sum x.source.frame t P i j) (sym is) ∙ sym (unfold direct_sum in refl)
 
-      direct : (i j : ℕ) → i < s.granted → j < x.source.size.columns → get_or s.joined (i * x.source.size.columns + j) (pos 0) ≡ direct_sum x i j
+      direct : (i j : ℕ) → i < s.granted → j < x.source.frame.columns → get_or s.joined (i * x.source.frame.columns + j) (pos 0) ≡ direct_sum x i j
       direct i j hi hj =
-          ap (λ (l : List ℤ). get_or l (i * x.source.size.columns + j) (pos 0)) g.joined_is
-          ∙ get_or-grid s.granted x.source.size.columns i j (window_sum x.source.size shape P) (pos 0) hi hj
+          ap (λ (l : List ℤ). get_or l (i * x.source.frame.columns + j) (pos 0)) g.joined_is
+          ∙ get_or-grid s.granted x.source.frame.columns i j (window_sum x.source.frame shape P) (pos 0) hi hj
           ∙ sym (unfold direct_sum in refl)
 
-      reading : (i j : ℕ) → i < x.source.size.rows → j < x.source.size.columns → read_call x.source.size (build_call x.source area).area x.window i j ≡ answered (direct_sum x i j)
+      reading : (i j : ℕ) → i < x.source.frame.rows → j < x.source.frame.columns → read_call x.source.frame (build_call x.source area).area x.window i j ≡ answered (direct_sum x i j)
       reading i j hi hj =
-          ap (λ (t : List ℤ). read_call x.source.size t x.window i j) (ap (λ (r : Filling). r.area) (build-fills x ok hf hg area e)) ∙ read-answers x ok hf hg i j hi hj
+          ap (λ (t : List ℤ). read_call x.source.frame t x.window i j) (ap (λ (r : Filling). r.area) (build-fills x ok hf hg area e)) ∙ read-answers x ok hf hg i j hi hj
 
 -- demand 3, for every list of calls
 pub demand3 : Demand3

@@ -14,7 +14,7 @@ use Rattle.numbers.proofs.Sums.{sum-none}
 use Rattle.spec_picture.specs.Refusal.{answered, refusal, outcome}
 use Rattle.spec_picture.specs.declared.Window.{Window}
 use Rattle.spec_picture.specs.Window.{rectangle_legal, diamond_legal, hexagon_legal, window_legal, shape_of, height, reach, width, depth, cells_beyond, cell_count, holds}
-use Rattle.spec_picture.specs.Size.{size_legal, in_range}
+use Rattle.spec_picture.specs.Frame.{frame_legal, in_range}
 use Rattle.spec_picture.specs.Picture.{shift_legal, counts, plane_value, plane_at}
 use Rattle.spec_picture.specs.Direct.{window_sum, direct_sum, direct_call}
 use Rattle.spec_rows.specs.Rows.{column_sum, cell_below, cell_above, enter_leave, work_value, work_change, work_after, output_row, strip, row_result, row_call}
@@ -95,7 +95,7 @@ infixr 2 ◌&◌
 ◌&◌ a b = (a, b)
 
 pub starred-hold : All starred
-unfolding sum_to pick tabulate wrap floor_div nearest root_step root_in root root_over refusal outcome rectangle_legal diamond_legal hexagon_legal window_legal shape_of height reach width depth cells_beyond cell_count size_legal shift_legal in_range counts plane_value plane_at window_sum direct_sum direct_call column_sum cell_below cell_above enter_leave work_value work_change work_after output_row strip row_result row_call impossible mean variance deviation unless_empty mean_call variance_call deviation_call signed magnitude coefficient coefficient_call
+unfolding sum_to pick tabulate wrap floor_div nearest root_step root_in root root_over refusal outcome rectangle_legal diamond_legal hexagon_legal window_legal shape_of height reach width depth cells_beyond cell_count frame_legal shift_legal in_range counts plane_value plane_at window_sum direct_sum direct_call column_sum cell_below cell_above enter_leave work_value work_change work_after output_row strip row_result row_call impossible mean variance deviation unless_empty mean_call variance_call deviation_call signed magnitude coefficient coefficient_call
 starred-hold =
     refl & refl & refl & refl & refl & refl & refl &
     refl & refl & refl & refl & refl & refl & refl &

@@ -16,7 +16,7 @@ use Rattle.std.proofs.Math.Option.{Option, none, some}
 use Rattle.spec_picture.specs.Refusal.{answered, refusal, outcome}
 use Rattle.spec_picture.specs.Window.{Slanted, rectangle, slanted, shape_of}
 use Rattle.spec_picture.specs.Picture.{Levels, Inputs, plane_at}
-use Rattle.spec_picture.specs.Size.{cells}
+use Rattle.spec_picture.specs.Frame.{cells}
 use Rattle.spec_picture.specs.Conditions.{accepted}
 use Rattle.spec_picture.specs.Direct.{direct_sum, direct_call}
 use Rattle.spec_table.specs.Table.{build_call, read_call}
@@ -73,35 +73,35 @@ pub record Agreement (x : Inputs) (area : List ℤ) (s : Progress) : Type 0 wher
   -- "the position is R"
   pub position_is : s.position ≡ s.granted
   -- R rows are rows of the picture
-  pub within : s.granted ≤ x.source.size.rows
+  pub within : s.granted ≤ x.source.frame.rows
   -- "the joined rows are R times columns numbers"
-  pub joined_length : length s.joined ≡ s.granted * x.source.size.columns
+  pub joined_length : length s.joined ≡ s.granted * x.source.frame.columns
   -- "for each i below R and each column j the number at i times columns plus j is the direct sum at (i, j), by call and by definition"
-  pub joined_direct : (i j : ℕ) → i < s.granted → j < x.source.size.columns → get_or s.joined (i * x.source.size.columns + j) (pos 0) ≡ direct_sum x i j
-  pub joined_call : (i j : ℕ) → i < s.granted → j < x.source.size.columns → direct_call x i j ≡ answered (get_or s.joined (i * x.source.size.columns + j) (pos 0))
+  pub joined_direct : (i j : ℕ) → i < s.granted → j < x.source.frame.columns → get_or s.joined (i * x.source.frame.columns + j) (pos 0) ≡ direct_sum x i j
+  pub joined_call : (i j : ℕ) → i < s.granted → j < x.source.frame.columns → direct_call x i j ≡ answered (get_or s.joined (i * x.source.frame.columns + j) (pos 0))
   -- "and also what reading gives there with this window from a table built of these inputs and untouched since"
-  pub joined_read : (i j : ℕ) → i < s.granted → j < x.source.size.columns →
-      read_call x.source.size (build_call x.source area).area x.window i j ≡ answered (get_or s.joined (i * x.source.size.columns + j) (pos 0))
+  pub joined_read : (i j : ℕ) → i < s.granted → j < x.source.frame.columns →
+      read_call x.source.frame (build_call x.source area).area x.window i j ≡ answered (get_or s.joined (i * x.source.frame.columns + j) (pos 0))
   -- "After a granted row i of a session begun fresh .. the work area holds", of one number a column, "for a rectangle, the column sums over rows i-a to i+a;
   -- for the others, the window sums of row i", which are the direct sums: i is R - 1
-  pub work_length : (i : ℕ) → s.granted ≡ suc i → length s.work ≡ x.source.size.columns
-  pub work_rectangle : (i j a b : ℕ) → s.granted ≡ suc i → j < x.source.size.columns → shape_of x.window ≡ rectangle a b → get_or s.work j (pos 0) ≡ column_sum x.source.size (plane_at x.source) a i j
-  pub work_slanted : (i j : ℕ) (o : Slanted) → s.granted ≡ suc i → j < x.source.size.columns → shape_of x.window ≡ slanted o → get_or s.work j (pos 0) ≡ direct_sum x i j
+  pub work_length : (i : ℕ) → s.granted ≡ suc i → length s.work ≡ x.source.frame.columns
+  pub work_rectangle : (i j a b : ℕ) → s.granted ≡ suc i → j < x.source.frame.columns → shape_of x.window ≡ rectangle a b → get_or s.work j (pos 0) ≡ column_sum x.source.frame (plane_at x.source) a i j
+  pub work_slanted : (i j : ℕ) (o : Slanted) → s.granted ≡ suc i → j < x.source.frame.columns → shape_of x.window ≡ slanted o → get_or s.work j (pos 0) ≡ direct_sum x i j
   -- what the next call answers, whatever it is: "its granted count is its request", and one that is turned down has the number of the first condition that holds
   pub next_answer : (c : Call) → (row_call x s.position c.request s.work c.output).answer ≡ outcome (verdict x s c) c.request
   -- at every cell of the picture direct sum and table reading are equal
-  pub table_direct : (i j : ℕ) → i < x.source.size.rows → j < x.source.size.columns → read_call x.source.size (build_call x.source area).area x.window i j ≡ direct_call x i j
+  pub table_direct : (i j : ℕ) → i < x.source.frame.rows → j < x.source.frame.columns → read_call x.source.frame (build_call x.source area).area x.window i j ≡ direct_call x i j
   -- "Never refused as impossible means that no statistic answers 9 to the six direct sums"
-  pub mean_answers : (i j : ℕ) → i < x.source.size.rows → j < x.source.size.columns → mean_call (six_sums x i j) ≡ answered (unless_empty (six_sums x i j) (mean (six_sums x i j)))
-  pub variance_answers : (i j : ℕ) → i < x.source.size.rows → j < x.source.size.columns → variance_call (six_sums x i j) ≡ answered (unless_empty (six_sums x i j) (variance (six_sums x i j)))
-  pub deviation_answers : (i j : ℕ) → i < x.source.size.rows → j < x.source.size.columns → deviation_call (six_sums x i j) ≡ answered (unless_empty (six_sums x i j) (pos (deviation (six_sums x i j))))
-  pub voice_answers : (i j : ℕ) → i < x.source.size.rows → j < x.source.size.columns → voice_call (six_sums x i j) ≡ answered (voice (six_sums x i j))
-  pub coefficient_answers : (i j : ℕ) → i < x.source.size.rows → j < x.source.size.columns → coefficient_call (six_sums x i j) ≡ answered (coefficient (six_sums x i j))
+  pub mean_answers : (i j : ℕ) → i < x.source.frame.rows → j < x.source.frame.columns → mean_call (six_sums x i j) ≡ answered (unless_empty (six_sums x i j) (mean (six_sums x i j)))
+  pub variance_answers : (i j : ℕ) → i < x.source.frame.rows → j < x.source.frame.columns → variance_call (six_sums x i j) ≡ answered (unless_empty (six_sums x i j) (variance (six_sums x i j)))
+  pub deviation_answers : (i j : ℕ) → i < x.source.frame.rows → j < x.source.frame.columns → deviation_call (six_sums x i j) ≡ answered (unless_empty (six_sums x i j) (pos (deviation (six_sums x i j))))
+  pub voice_answers : (i j : ℕ) → i < x.source.frame.rows → j < x.source.frame.columns → voice_call (six_sums x i j) ≡ answered (voice (six_sums x i j))
+  pub coefficient_answers : (i j : ℕ) → i < x.source.frame.rows → j < x.source.frame.columns → coefficient_call (six_sums x i j) ≡ answered (coefficient (six_sums x i j))
   -- the coefficient lies from -1000 to 1000 where there is one
-  pub coefficient_range : (i j : ℕ) (c : ℤ) → i < x.source.size.rows → j < x.source.size.columns → coefficient_call (six_sums x i j) ≡ answered (value c) → nat_abs c ≤ 1000
+  pub coefficient_range : (i j : ℕ) (c : ℤ) → i < x.source.frame.rows → j < x.source.frame.columns → coefficient_call (six_sums x i j) ≡ answered (value c) → nat_abs c ≤ 1000
 
 -- demand 3
 abbrev pub Demand3 : Type 0
 Demand3 =
-    (x : Inputs) (work area : List ℤ) (calls : List Call) → accepted x → Levels x.source.f → Levels x.source.g → length area ≡ cells x.source.size →
+    (x : Inputs) (work area : List ℤ) (calls : List Call) → accepted x → Levels x.source.f → Levels x.source.g → length area ≡ cells x.source.frame →
     Agreement x area (after x (fresh work) calls)

@@ -5,8 +5,8 @@ use Rattle.std.proofs.Math.Option.{none, some}
 use Rattle.spec_picture.specs.Refusal.{Outcome, refused, answered}
 use Rattle.spec_picture.specs.declared.Window.{Window}
 use Rattle.spec_picture.specs.Window.{window, shape_of, cell_count}
-use Rattle.spec_picture.specs.declared.Size.{Size}
-use Rattle.spec_picture.specs.Size.{size}
+use Rattle.spec_picture.specs.declared.Frame.{Frame}
+use Rattle.spec_picture.specs.Frame.{frame}
 use Rattle.spec_picture.specs.Picture.{shift, no_shift, Inputs, inputs}
 use Rattle.spec_picture.specs.Direct.{direct_call}
 use Rattle.spec_rows.specs.Rows.{RowOutcome, row_call}
@@ -20,8 +20,8 @@ use Rattle.spec_statistics.specs.Coefficient.{coefficient_call, Coefficient, val
 abbrev pub K : List ℤ
 K = pos 1 ∷ pos 2 ∷ pos 3 ∷ pos 4 ∷ pos 5 ∷ pos 6 ∷ pos 7 ∷ pos 8 ∷ pos 9 ∷ []
 
-abbrev pub three : Size
-three = size 3 3
+abbrev pub three : Frame
+three = frame 3 3
 
 -- K alone, with a window
 abbrev pub alone : Window → Inputs
@@ -29,7 +29,7 @@ alone w = inputs three K K w no_shift 0
 
 -- two pictures of one row, and a window over all of it
 abbrev pub line : List ℤ → List ℤ → ℕ → Inputs
-line f g n = inputs (size 1 n) f g (window 1 (pos 0) (pos 2)) no_shift 0
+line f g n = inputs (frame 1 n) f g (window 1 (pos 0) (pos 2)) no_shift 0
 
 abbrev pub rect11 : Window
 rect11 = window 1 (pos 1) (pos 1)

@@ -2,7 +2,7 @@
 #![tactic(auto, unfolding(spec_c::specs::Reply::status, spec_c::specs::Reply::result_or, spec_c::specs::Reply::reply))]
 
 ghost use Rattle.std.specs.Prelude.{◌≡◌, pos};
-ghost use Rattle.spec_picture.specs.Size.{cell};
+ghost use Rattle.spec_picture.specs.Frame.{cell};
 ghost use Rattle.spec_picture.specs.Answers.{number, outcome_of, optional_outcome};
 ghost use Rattle.spec_c.specs.Reply.{with_value, status, reply, of_option, of_cell};
 ghost use Rattle.spec_c.specs.Leaves.{CallLeaves};

@@ -1,13 +1,13 @@
 // The C interface to the row session.
 
-ghost use Rattle.spec_picture.specs.Size.{size};
+ghost use Rattle.spec_picture.specs.Frame.{frame};
 ghost use Rattle.spec_picture.specs.Window.{window};
 ghost use Rattle.spec_picture.specs.Picture.{shift, inputs};
 ghost use Rattle.spec_rows.specs.Rows.{row_call};
 ghost use Rattle.spec_c.specs.Leaves.{RowCallLeaves};
 
 use crate::replies::hand_back;
-use local_statistics::{Inputs, Shift, Size, Source, Window, rows_plain};
+use local_statistics::{Frame, Inputs, Shift, Source, Window, rows_plain};
 
 // `row_session::rows_plain`: the sums of the next rows of a session, which in C is its position alone.
 #[unsafe(no_mangle)]
@@ -28,11 +28,11 @@ pub extern "C" fn ls_rows(
     out: &mut [i64],
     granted: &mut usize,
 ) -> i32
-    ensures { RowCallLeaves (row_call (inputs (size rows columns) f.now g.now (window shape first second) (shift down right) plane) position.old request work.old out.old) granted.old result granted.new position.new work.new out.new }
+    ensures { RowCallLeaves (row_call (inputs (frame rows columns) f.now g.now (window shape first second) (shift down right) plane) position.old request work.old out.old) granted.old result granted.new position.new work.new out.new }
 {
     let inputs = Inputs {
         source: Source {
-            size: Size { rows, columns },
+            frame: Frame { rows, columns },
             f,
             g,
             shift: Shift { down, right },

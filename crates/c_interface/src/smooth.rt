@@ -1,13 +1,13 @@
 // The C interface to smoothing a picture.
 
 ghost use Rattle.std.specs.Prelude.{◌≡◌};
-ghost use Rattle.spec_picture.specs.Size.{size};
+ghost use Rattle.spec_picture.specs.Frame.{frame};
 ghost use Rattle.spec_picture.specs.Window.{window};
 ghost use Rattle.spec_smoothing.specs.Smoothing.{smooth_call};
 ghost use Rattle.spec_c.specs.Reply.{with_value, status, reply};
 
 use crate::replies::done;
-use local_statistics::{Size, Window, smooth};
+use local_statistics::{Frame, Window, smooth};
 
 // `smoothing::smooth`: the mean over the window at every cell.
 #[unsafe(no_mangle)]
@@ -20,14 +20,14 @@ pub extern "C" fn ls_smooth(
     second: i32,
     out: &mut [i16],
 ) -> i32
-    ensures status { result ≡ status (reply with_value (smooth_call (size rows columns) f.now (window shape first second) out.old).answer) }
-    ensures area { out.new ≡ (smooth_call (size rows columns) f.now (window shape first second) out.old).area }
+    ensures status { result ≡ status (reply with_value (smooth_call (frame rows columns) f.now (window shape first second) out.old).answer) }
+    ensures area { out.new ≡ (smooth_call (frame rows columns) f.now (window shape first second) out.old).area }
 {
-    let size = Size { rows, columns };
+    let frame = Frame { rows, columns };
     let window = Window {
         shape,
         first,
         second,
     };
-    done(smooth(size, f, window, out))
+    done(smooth(frame, f, window, out))
 }

@@ -1,6 +1,6 @@
 // The C interface to the search for the first steady cell.
 
-ghost use Rattle.spec_picture.specs.Size.{size, cell};
+ghost use Rattle.spec_picture.specs.Frame.{frame, cell};
 ghost use Rattle.spec_picture.specs.Window.{window};
 ghost use Rattle.spec_picture.specs.Picture.{shift};
 ghost use Rattle.spec_smoothing.specs.Steady.{steady_call};
@@ -8,7 +8,7 @@ ghost use Rattle.spec_c.specs.Reply.{reply, of_cell};
 ghost use Rattle.spec_c.specs.Leaves.{CallLeaves};
 
 use crate::replies;
-use local_statistics::{Shift, Size, Window, steady};
+use local_statistics::{Frame, Shift, Window, steady};
 
 // `steady_search::steady`: the first steady cell in row order.
 #[unsafe(no_mangle)]
@@ -25,14 +25,14 @@ pub extern "C" fn ls_steady(
     row: &mut usize,
     column: &mut usize,
 ) -> i32
-    ensures { CallLeaves (reply of_cell (steady_call (size rows columns) f.now g.now (window shape first second) (shift down right))) (cell row.old column.old) result (cell row.new column.new) }
+    ensures { CallLeaves (reply of_cell (steady_call (frame rows columns) f.now g.now (window shape first second) (shift down right))) (cell row.old column.old) result (cell row.new column.new) }
 {
-    let size = Size { rows, columns };
+    let frame = Frame { rows, columns };
     let window = Window {
         shape,
         first,
         second,
     };
     let shift = Shift { down, right };
-    replies::found(steady(size, f, g, window, shift), row, column)
+    replies::found(steady(frame, f, g, window, shift), row, column)
 }

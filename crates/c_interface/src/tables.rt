@@ -1,7 +1,7 @@
 // The C interface to the cumulative table.
 
 ghost use Rattle.std.specs.Prelude.{◌≡◌};
-ghost use Rattle.spec_picture.specs.Size.{size};
+ghost use Rattle.spec_picture.specs.Frame.{frame};
 ghost use Rattle.spec_picture.specs.Window.{window};
 ghost use Rattle.spec_picture.specs.Picture.{shift, source};
 ghost use Rattle.spec_table.specs.Table.{build_call, read_call};
@@ -9,7 +9,7 @@ ghost use Rattle.spec_c.specs.Reply.{with_value, status, reply};
 ghost use Rattle.spec_c.specs.Leaves.{CallLeaves};
 
 use crate::replies::{done, hand_back};
-use local_statistics::{Cell, Shift, Size, Source, Window, build, read};
+use local_statistics::{Cell, Frame, Shift, Source, Window, build, read};
 
 // `table::build`: fills the area with the cumulative table of a plane.
 #[unsafe(no_mangle)]
@@ -23,11 +23,11 @@ pub extern "C" fn ls_build(
     plane: u32,
     table: &mut [i64],
 ) -> i32
-    ensures status { result ≡ status (reply with_value (build_call (source (size rows columns) f.now g.now (shift down right) plane) table.old).answer) }
-    ensures area { table.new ≡ (build_call (source (size rows columns) f.now g.now (shift down right) plane) table.old).area }
+    ensures status { result ≡ status (reply with_value (build_call (source (frame rows columns) f.now g.now (shift down right) plane) table.old).answer) }
+    ensures area { table.new ≡ (build_call (source (frame rows columns) f.now g.now (shift down right) plane) table.old).area }
 {
     let source = Source {
-        size: Size { rows, columns },
+        frame: Frame { rows, columns },
         f,
         g,
         shift: Shift { down, right },
@@ -49,13 +49,13 @@ pub extern "C" fn ls_read(
     column: usize,
     sum: &mut i64,
 ) -> i32
-    ensures { CallLeaves (reply with_value (read_call (size rows columns) table.now (window shape first second) row column)) sum.old result sum.new }
+    ensures { CallLeaves (reply with_value (read_call (frame rows columns) table.now (window shape first second) row column)) sum.old result sum.new }
 {
-    let size = Size { rows, columns };
+    let frame = Frame { rows, columns };
     let window = Window {
         shape,
         first,
         second,
     };
-    hand_back(read(size, table, window, Cell { row, column }), sum)
+    hand_back(read(frame, table, window, Cell { row, column }), sum)
 }

@@ -1,7 +1,7 @@
 // The first refusal of each operation, or its inputs with what the checks have found.
 #![tactic(auto, unfolding(spec_picture::specs::Refusal::refusal, spec_picture::specs::Refusal::outcome))]
 
-pub mod legal_sizes; // legal_sizes.rt: the limits of a size
+pub mod legal_frames; // legal_frames.rt: the limits of a frame
 pub mod legal_windows; // legal_windows.rt: the limits of a window and of a shift
 pub mod levels; // levels.rt: what the type of a picture says of its levels
 pub mod operations; // operations.rt: the lines of each operation, as the table of refusals has them
@@ -14,11 +14,11 @@ ghost use Rattle.spec_picture.specs.Plane.{plane_number};
 ghost use Rattle.spec_picture.specs.Checked.{given, pictures, checked_pictures, checked_source};
 ghost use Rattle.spec_picture.specs.Conditions.{check3, picture_checks};
 
-use crate::legal_sizes::{is_full, size_legal};
+use crate::legal_frames::{frame_legal, is_full};
 use crate::legal_windows::numbers_legal;
 use crate::levels::known;
 use spec_picture::{
-    CheckedPictures, CheckedSource, CheckedWindow, Plane, Refusal, Shape, Shift, Size, Window,
+    CheckedPictures, CheckedSource, CheckedWindow, Frame, Plane, Refusal, Shape, Shift, Window,
 };
 
 // One line of the table: the call is turned down unless the input is sound.
@@ -30,18 +30,18 @@ fn require(sound: bool, line: Refusal) -> Result<(), Refusal>
 
 // 1, and 2 for each of two pictures, as each operation gives them.
 fn check_pictures<'a>(
-    size: Size,
+    frame: Frame,
     f: &'a [i16],
     g: &'a [i16],
 ) -> Result<CheckedPictures<'a>, Refusal>
-    ensures { outcome_by checked_pictures result ≡ outcome (refusal (picture_checks size f.now g.now)) (pictures size f.now g.now) }
+    ensures { outcome_by checked_pictures result ≡ outcome (refusal (picture_checks frame f.now g.now)) (pictures frame f.now g.now) }
 {
-    require(size_legal(size), Refusal::Size)?;
-    require(is_full(size, f.len()), Refusal::Length)?;
-    require(is_full(size, g.len()), Refusal::Length)?;
+    require(frame_legal(frame), Refusal::Size)?;
+    require(is_full(frame, f.len()), Refusal::Length)?;
+    require(is_full(frame, g.len()), Refusal::Length)?;
     known(f);
     known(g);
-    Ok(CheckedPictures { size, f, g })
+    Ok(CheckedPictures { frame, f, g })
 }
 
 // 3. A function and no `TryFrom<Window>`, which would have to stand beside the type in `spec_picture`, below the tests of the limits; and so `check_inputs`.
@@ -61,10 +61,10 @@ pub fn check_window(window: Window) -> Result<CheckedWindow, Refusal>
 // The pictures with a legal shift and a plane.
 fn with_shift<'a>(pictures: &CheckedPictures<'a>, shift: Shift, plane: Plane) -> CheckedSource<'a>
     requires { T (shift_legal shift) }
-    ensures { checked_source result ≡ source pictures.now.size pictures.now.f.now pictures.now.g.now shift (plane_number plane) }
+    ensures { checked_source result ≡ source pictures.now.frame pictures.now.f.now pictures.now.g.now shift (plane_number plane) }
 {
     CheckedSource {
-        size: pictures.size,
+        frame: pictures.frame,
         f: pictures.f,
         g: pictures.g,
         shift,

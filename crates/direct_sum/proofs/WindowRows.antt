@@ -11,7 +11,7 @@ use Rattle.numbers.specs.Sum.{sum_to, pick}
 use Rattle.numbers.specs.Wrap.{wrap}
 use Rattle.numbers.proofs.Sums.{sum-none, sum-split, sum-range, near-range}
 use Rattle.numbers.proofs.Wraps.{wrap-small}
-use Rattle.spec_picture.specs.Size.{row_gap, column_gap}
+use Rattle.spec_picture.specs.Frame.{row_gap, column_gap}
 use Rattle.spec_picture.specs.Window.{shape_of, height, reach}
 use Rattle.spec_picture.specs.Picture.{Inputs, plane_at}
 use Rattle.spec_picture.specs.Direct.{window_sum, direct_sum}
@@ -57,30 +57,30 @@ module _ (f : ℕ → ℤ) where
 -- the part of row m that lies in the rows of the window on (i, j)
 unfoldable pub window_row : Inputs → (i j m : ℕ) → ℤ
 window_row x i j m =
-    let z = x.source.size in
+    let z = x.source.frame in
     sum_to z.columns (λ n. pick (leb (column_gap z j n) (reach (shape_of x.window) (row_gap z i m))) (plane_at x.source m n))
 
 -- its columns are those from `start` up to `end`
-pub row-total : (x : Inputs) (i j m far start end : ℕ) → j < x.source.size.columns → far ≡ reach (shape_of x.window) (row_gap x.source.size i m) → start ≡ j - far → end ≡ min (suc (j + far)) x.source.size.columns →
+pub row-total : (x : Inputs) (i j m far start end : ℕ) → j < x.source.frame.columns → far ≡ reach (shape_of x.window) (row_gap x.source.frame i m) → start ≡ j - far → end ≡ min (suc (j + far)) x.source.frame.columns →
     sum_to (end - start) (λ k. plane_at x.source m (start + k)) ≡ window_row x i j m
 unfolding window_row
 row-total x i j m far start end j< is_reach is_start is_end =
-    let columns = x.source.size.columns in
+    let columns = x.source.frame.columns in
     let P = plane_at x.source m in
     let left : min (j - far) columns ≡ start = omega (arith, is_start) in
     ap (λ (n : ℕ). sum_to (n - start) (λ k. P (start + k))) is_end
     ∙ ap (λ (n : ℕ). sum_to (min (suc (j + far)) columns - n) (λ k. P (n + k))) (sym left)
     ∙ sym (near-range columns j far P)
-    ∙ ap (λ (r : ℕ). sum_to columns (λ n. pick (leb (column_gap x.source.size j n) r) (P n))) is_reach
+    ∙ ap (λ (r : ℕ). sum_to columns (λ n. pick (leb (column_gap x.source.frame j n) r) (P n))) is_reach
 
 -- ---- the window row by row, from its first row on
 pub rows-total : (x : Inputs) (i j : ℕ) →
     let h = height (shape_of x.window) in
-    i < x.source.size.rows →
-    sum_to (min (suc (i + h)) x.source.size.rows - (i - h)) (λ k. window_row x i j (i - h + k)) ≡ direct_sum x i j
+    i < x.source.frame.rows →
+    sum_to (min (suc (i + h)) x.source.frame.rows - (i - h)) (λ k. window_row x i j (i - h + k)) ≡ direct_sum x i j
 unfolding direct_sum window_row
 rows-total x i j l =
-    let z = x.source.size in
+    let z = x.source.frame in
     let s = shape_of x.window in
     let h = height s in
     let row : ℕ → ℤ = λ m. sum_to z.columns (λ n. pick (leb (column_gap z j n) (reach s (row_gap z i m))) (plane_at x.source m n)) in
@@ -91,19 +91,19 @@ rows-total x i j l =
 pub direct-fits : (x : Inputs) (i j : ℕ) → Checked x → wrap (direct_sum x i j) ≡ direct_sum x i j
 unfolding direct_sum
 direct-fits x i j checked =
-    let z = x.source.size in
-    let l = in-limits z checked.size in
+    let z = x.source.frame in
+    let l = in-limits z checked.frame in
     wrap-small (window_sum z (shape_of x.window) (plane_at x.source) i j)
     (omega (arith, window-bound z (shape_of x.window) (plane_at x.source) (2 ^ 30) i j (plane-bound x.source checked.levels_f checked.levels_g), mul-le-mul l.few_rows l.few_columns))
 
 -- after the window's last row the loop has the direct sum
 pub rows-done : (x : Inputs) (i j top bottom m : ℕ) (s : ℤ) →
     let h = height (shape_of x.window) in
-    i < x.source.size.rows → top ≡ i - h → bottom ≡ min (suc (i + h)) x.source.size.rows → m ≡ bottom → Checked x →
+    i < x.source.frame.rows → top ≡ i - h → bottom ≡ min (suc (i + h)) x.source.frame.rows → m ≡ bottom → Checked x →
     s ≡ wrap (sum_to (m - top) (λ k. window_row x i j (top + k))) → s ≡ direct_sum x i j
 rows-done x i j top bottom m s l et eb em checked e =
     e
     ∙ ap (λ (n : ℕ). wrap (sum_to (n - top) (λ k. window_row x i j (top + k)))) (em ∙ eb)
-    ∙ ap (λ (n : ℕ). wrap (sum_to (min (suc (i + height (shape_of x.window))) x.source.size.rows - n) (λ k. window_row x i j (n + k)))) et
+    ∙ ap (λ (n : ℕ). wrap (sum_to (min (suc (i + height (shape_of x.window))) x.source.frame.rows - n) (λ k. window_row x i j (n + k)))) et
     ∙ ap wrap (rows-total x i j l)
     ∙ direct-fits x i j checked

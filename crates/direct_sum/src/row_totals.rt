@@ -42,7 +42,7 @@ fn products_total(a: &[i16], b: &[i16]) -> i64
 }
 
 // The sum of the columns from `start` up to `end` of a row, all of which count if the row does. Of plane 0 it is how many there are.
-#[tactic(auto, unfolding(spec_picture::specs::Size::size_legal))]
+#[tactic(auto, unfolding(spec_picture::specs::Frame::frame_legal))]
 fn part_sum(view: &View<'_>, row: usize, start: usize, end: usize) -> i64
     requires { AllCount view.now.columns start end }
     ensures { result ≡ wrap (sum_to (end - start) (λ k. plane_at (checked_source view.now.source) row (start + k))) }
@@ -70,7 +70,7 @@ fn part_sum(view: &View<'_>, row: usize, start: usize, end: usize) -> i64
 // The sum of the columns from `start` up to `end` of a row: of those that count. Inlined, as `window_sums::sum` is and for the same reason.
 #[inline(always)]
 pub fn row_sum(view: &View<'_>, row: usize, start: usize, end: usize) -> i64
-    requires { (start ≤ end) × (end ≤ view.now.source.size.columns) }
+    requires { (start ≤ end) × (end ≤ view.now.source.frame.columns) }
     ensures { result ≡ wrap (sum_to (end - start) (λ k. plane_at (checked_source view.now.source) row (start + k))) }
 {
     part_sum(view, row, view.clip(start), view.clip(end))

@@ -3,7 +3,7 @@
 #![tactic(auto)]
 
 ghost use Rattle.std.specs.Prelude.{◌≡◌};
-ghost use Rattle.spec_picture.specs.Size.{Within};
+ghost use Rattle.spec_picture.specs.Frame.{Within};
 ghost use Rattle.spec_picture.specs.Checked.{checked_inputs};
 ghost use Rattle.spec_picture.specs.Direct.{direct_sum};
 
@@ -15,22 +15,22 @@ use windows::{clip, reaches, shape};
 
 // The sum of the plane over the window. It has two callers, `direct_sum` and the slopes' first column: not inlined into the first, a sum of 3 × 3 takes 1.14 times as
 // long.
-#[tactic(auto, unfolding(spec_picture::specs::Size::size_legal))]
+#[tactic(auto, unfolding(spec_picture::specs::Frame::frame_legal))]
 #[inline(always)]
 pub fn sum(inputs: &CheckedInputs<'_>, cell: Cell) -> i64
-    requires { Within inputs.now.source.size cell.row cell.column }
+    requires { Within inputs.now.source.frame cell.row cell.column }
     ensures { result ≡ direct_sum (checked_inputs inputs.now) cell.row cell.column }
 {
     let row = cell.row;
     let column = cell.column;
     let view = view_of(&inputs.source);
     let height = shape::height(inputs.window);
-    let bottom = clip::high(row, height, inputs.source.size.rows);
+    let bottom = clip::high(row, height, inputs.source.frame.rows);
     let mut s = 0i64;
     for m in clip::low(row, height)..bottom {
         let reach = reaches::reach(inputs.window, clip::distance(row, m));
         let start = clip::low(column, reach);
-        let end = clip::high(column, reach, inputs.source.size.columns);
+        let end = clip::high(column, reach, inputs.source.frame.columns);
         s = wrapping::wrapping_add(s, row_sum(&view, m, start, end));
     }
     s

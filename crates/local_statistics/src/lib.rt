@@ -1,8 +1,8 @@
 // What other crates may rest on: the public operations and their types. Each name stands in one crate below, and its promise with it.
 #![tactic(auto)]
 
-// What a call is given: a size, a cell of it, a window, a shift, a plane, and two pictures with them.
-pub use spec_picture::{Cell, Inputs, Plane, Shape, Shift, Size, Source, Window};
+// What a call is given: a frame, a cell of it, a window, a shift, a plane, and two pictures with them.
+pub use spec_picture::{Cell, Frame, Inputs, Plane, Shape, Shift, Source, Window};
 
 // What turns a call down: a line of document 01's table.
 pub use spec_picture::Refusal;

@@ -1,4 +1,4 @@
--- From numbers to a drawing, one number after the other: what is missing or malformed, the size, the window, the levels.
+-- From numbers to a drawing, one number after the other: what is missing or malformed, the frame, the window, the levels.
 -- Assumes nothing.
 use Rattle.std.proofs.Common.{◌≡◌, refl, sym, ◌∙◌, ap, ℕ, ◌≤◌, Bool, true, false, ◌&&◌, leb, List, [], ◌∷◌, ◌++◌, length, take, map, Option, None, Some, Result, Ok, Err, ℤ, pos, negsuc, unsigned_abs, arith}
 use mir.Syntax.{w32}
@@ -17,18 +17,18 @@ use Rattle.spec_picture.specs.Refusal.{◌when◌, refusal, refused, answered}
 use Rattle.spec_picture.specs.Conditions.{check3}
 use Rattle.spec_picture.specs.declared.Refusal.{Refusal}
 use Rattle.spec_picture.specs.declared.Refusal.TheVariants as line
-use Rattle.spec_picture.specs.declared.Size.{Size}
+use Rattle.spec_picture.specs.declared.Frame.{Frame}
 use Rattle.spec_picture.specs.declared.Window.{Window}
-use Rattle.spec_picture.specs.Size.{size, size_legal, cells}
+use Rattle.spec_picture.specs.Frame.{frame, frame_legal, cells}
 use Rattle.spec_picture.specs.Window.{window, window_legal}
 use Rattle.spec_picture.proofs.Refusals.{in-limits}
 use Rattle.numbers.proofs.Tests.{and_right}
 use Rattle.spec_panel.specs.Text.{runs, number as number_of}
-use Rattle.spec_panel.specs.Panel.{count_of, panel_size, levels_of, framed, filled, sized, parsed}
+use Rattle.spec_panel.specs.Panel.{count_of, panel_frame, levels_of, windowed, filled, sized, parsed}
 use Rattle.panel_text.specs.Levels.{levels_told}
-use Rattle.panel_text.specs.Read.{no_number, NumberIs, SizeIs, WindowIs, Roomy}
+use Rattle.panel_text.specs.Read.{no_number, NumberIs, FrameIs, WindowIs, Roomy}
 
--- ---- the size
+-- ---- the frame
 sized-no-rows : (ns : List (Option ℤ)) → T (no_number ns) → sized ns ≡ refused 10
 unfolding sized
 sized-no-rows [] t = refl
@@ -41,34 +41,34 @@ sized-no-columns r [] t = refl
 sized-no-columns r (None ∷ ns) t = refl
 sized-no-columns r (Some n ∷ ns) t = absurd t
 
-by_size : (r c : ℤ) (ns : List (Option ℤ)) (b : Bool) → panel_size (size (count_of r) (count_of c)) ≡ b
-    → sized (Some r ∷ Some c ∷ ns) ≡ elim b [ true ↦ filled (size (count_of r) (count_of c)) ns | false ↦ refused 1 ]
+by_frame : (r c : ℤ) (ns : List (Option ℤ)) (b : Bool) → panel_frame (frame (count_of r) (count_of c)) ≡ b
+    → sized (Some r ∷ Some c ∷ ns) ≡ elim b [ true ↦ filled (frame (count_of r) (count_of c)) ns | false ↦ refused 1 ]
 unfolding sized
-by_size r c ns b e = ap (λ (b : Bool). elim b [ true ↦ filled (size (count_of r) (count_of c)) ns | false ↦ refused 1 ]) e
+by_frame r c ns b e = ap (λ (b : Bool). elim b [ true ↦ filled (frame (count_of r) (count_of c)) ns | false ↦ refused 1 ]) e
 
--- what reading the size says
+-- what reading the frame says
 module _ (ns after : List (Option ℤ)) where
-  pub no_rows : (e : Refusal) → NumberIs ns (Err e) after → SizeIs ns (Err e) after
+  pub no_rows : (e : Refusal) → NumberIs ns (Err e) after → FrameIs ns (Err e) after
   no_rows e n = record { same = sized-no-rows ns n.1 ∙ ap (λ r. refused (number r)) (sym n.0); legal = tt }
 
   module _ (r : ℤ) (rows-read : NumberIs ns (Ok r) after) (left : List (Option ℤ)) where
-    pub no-columns : (e : Refusal) → NumberIs after (Err e) left → SizeIs ns (Err e) left
+    pub no-columns : (e : Refusal) → NumberIs after (Err e) left → FrameIs ns (Err e) left
     no-columns e n = record { same = ap sized rows-read ∙ sized-no-columns r after n.1 ∙ ap (λ r. refused (number r)) (sym n.0); legal = tt }
 
     module _ (c : ℤ) (columns-read : NumberIs after (Ok c) left) (rows columns : ℕ) (is-rows : rows ≡ count_of r) (is-columns : columns ≡ count_of c) where
-      both_read : (b : Bool) → panel_size (size rows columns) ≡ b → sized ns ≡ elim b [ true ↦ filled (size rows columns) left | false ↦ refused 1 ]
+      both_read : (b : Bool) → panel_frame (frame rows columns) ≡ b → sized ns ≡ elim b [ true ↦ filled (frame rows columns) left | false ↦ refused 1 ]
       both_read b e =
-          let z : size (count_of r) (count_of c) ≡ size rows columns = cc in
-          ap sized (rows-read ∙ ap (λ l. Some r ∷ l) columns-read) ∙ by_size r c left b (ap panel_size z ∙ e) ∙ ap (λ (y : Size). elim b [ true ↦ filled y left | false ↦ refused 1 ]) z
+          let z : frame (count_of r) (count_of c) ≡ frame rows columns = cc in
+          ap sized (rows-read ∙ ap (λ l. Some r ∷ l) columns-read) ∙ by_frame r c left b (ap panel_frame z ∙ e) ∙ ap (λ (y : Frame). elim b [ true ↦ filled y left | false ↦ refused 1 ]) z
 
-      pub size-beyond : panel_size (size rows columns) ≡ false → SizeIs ns (Err line.Size) left
-      size-beyond e = record { same = both_read false e; legal = tt }
+      pub frame-beyond : panel_frame (frame rows columns) ≡ false → FrameIs ns (Err line.Size) left
+      frame-beyond e = record { same = both_read false e; legal = tt }
 
-      pub size-within : panel_size (size rows columns) ≡ true → SizeIs ns (Ok (size rows columns)) left
-      size-within e = record { same = both_read true e; legal = rw e tt }
+      pub frame-within : panel_frame (frame rows columns) ≡ true → FrameIs ns (Ok (frame rows columns)) left
+      frame-within e = record { same = both_read true e; legal = rw e tt }
 
 -- ---- the window
-module _ (z : Size) where
+module _ (z : Frame) where
   filled-no-shape : (ns : List (Option ℤ)) → T (no_number ns) → filled z ns ≡ refused 10
   unfolding filled
   filled-no-shape [] t = refl
@@ -87,7 +87,7 @@ module _ (z : Size) where
   filled-no-second s a (None ∷ ns) t = refl
   filled-no-second s a (Some n ∷ ns) t = absurd t
 
-  filled-window : (s a b : ℤ) (ns : List (Option ℤ)) → filled z (Some s ∷ Some a ∷ Some b ∷ ns) ≡ framed z (window (count_of s) a b) (levels_of (cells z) ns)
+  filled-window : (s a b : ℤ) (ns : List (Option ℤ)) → filled z (Some s ∷ Some a ∷ Some b ∷ ns) ≡ windowed z (window (count_of s) a b) (levels_of (cells z) ns)
   unfolding filled
   filled-window s a b ns = refl
 
@@ -114,13 +114,13 @@ module _ (ns after : List (Option ℤ)) where
           }
 
 -- ---- the outcome
-framed-none : (z : Size) (w : Window) → framed z w None ≡ refused 10
-unfolding framed
-framed-none z w = refl
+windowed-none : (z : Frame) (w : Window) → windowed z w None ≡ refused 10
+unfolding windowed
+windowed-none z w = refl
 
-by-window : (z : Size) (w : Window) (l : List ℤ) (b : Bool) → window_legal w ≡ b → framed z w (Some l) ≡ elim b [ true ↦ answered (record { size = z; window = w; levels = l }) | false ↦ refused 3 ]
-unfolding framed
-by-window z w l b e = ap (λ (b : Bool). elim b [ true ↦ answered (record { size = z; window = w; levels = l }) | false ↦ refused 3 ]) e
+by-window : (z : Frame) (w : Window) (l : List ℤ) (b : Bool) → window_legal w ≡ b → windowed z w (Some l) ≡ elim b [ true ↦ answered (record { frame = z; window = w; levels = l }) | false ↦ refused 3 ]
+unfolding windowed
+by-window z w l b e = ap (λ (b : Bool). elim b [ true ↦ answered (record { frame = z; window = w; levels = l }) | false ↦ refused 3 ]) e
 
 -- a window that check 3 refuses
 pub refused-beyond : (w : Window) (m : ℕ) → some m ≡ refusal (check3 w ∷ []) → (window_legal w ≡ false) × (m ≡ 3)
@@ -131,23 +131,23 @@ refused-beyond w m = go (window_legal w)
     go true h = cc
     go false h = (refl, cc)
 
--- ---- a legal size
-pub small-cells : (z : Size) → size_legal z ≡ true → cells z ≤ 262144
+-- ---- a legal frame
+pub small-cells : (z : Frame) → frame_legal z ≡ true → cells z ≤ 262144
 small-cells z e =
     let l = in-limits z (rw e tt) in
     omega (arith, mul-le-mul l.few_rows l.few_columns)
 
-pub cells-few : (z : Size) → T (panel_size z) → cells z ≤ 4096
-unfolding panel_size
-cells-few z t = leb→le (cells z) 4096 (and_right (size_legal z) (leb (cells z) 4096) t)
+pub cells-few : (z : Frame) → T (panel_frame z) → cells z ≤ 4096
+unfolding panel_frame
+cells-few z t = leb→le (cells z) 4096 (and_right (frame_legal z) (leb (cells z) 4096) t)
 
-pub roomy : {ns after : List (Option ℤ)} {z : Size} {area : List ℤ} → SizeIs ns (Ok z) after → 4096 ≤ length area → Roomy z area
+pub roomy : {ns after : List (Option ℤ)} {z : Frame} {area : List ℤ} → FrameIs ns (Ok z) after → 4096 ≤ length area → Roomy z area
 roomy s h = record { legal = s.legal; room = h }
 
-pub cells-room : (z : Size) (area : List ℤ) → Roomy z area → cells z ≤ length area
+pub cells-room : (z : Frame) (area : List ℤ) → Roomy z area → cells z ≤ length area
 cells-room z area r = omega (arith, cells-few z r.legal, r.room)
 
-pub cells-part : (z : Size) (area : List ℤ) → Roomy z area → length (take (cells z) area) ≡ cells z
+pub cells-part : (z : Frame) (area : List ℤ) → Roomy z area → length (take (cells z) area) ≡ cells z
 cells-part z area r = length-take-le (cells z) area (cells-room z area r)
 
 -- ---- a number that counts
@@ -158,13 +158,13 @@ counted (negsuc n) (Ok k) o f = absurd o.0
 counted (pos n) (Err e) o f = absurd (o (omega (arith, f.sfits)))
 counted (negsuc n) (Err e) o f = refl
 
-pub size-inside : (z : Size) → size_legal z ≡ true → leb (cells z) 4096 ≡ panel_size z
-unfolding panel_size
-size-inside z e = sym (ap (λ b. b && leb (cells z) 4096) e)
+pub frame-inside : (z : Frame) → frame_legal z ≡ true → leb (cells z) 4096 ≡ panel_frame z
+unfolding panel_frame
+frame-inside z e = sym (ap (λ b. b && leb (cells z) 4096) e)
 
-pub size-outside : (z : Size) → size_legal z ≡ false → false ≡ panel_size z
-unfolding panel_size
-size-outside z e = sym (ap (λ b. b && leb (cells z) 4096) e)
+pub frame-outside : (z : Frame) → frame_legal z ≡ false → false ≡ panel_frame z
+unfolding panel_frame
+frame-outside z e = sym (ap (λ b. b && leb (cells z) 4096) e)
 
 -- ---- the whole text
 text-short : (text : List ℕ) → length text ≤ 65536 → parsed text ≡ sized (map number_of (runs text))
@@ -172,36 +172,36 @@ unfolding parsed
 text-short text h = ap (λ (b : Bool). elim b [ true ↦ refused 10 | false ↦ sized (map number_of (runs text)) ]) (le-ltb 65536 (length text) h)
 
 module _ (text : List ℕ) (h : length text ≤ 65536) (ns after : List (Option ℤ)) (is : ns ≡ map number_of (runs text)) where
-  pub no_size : (e : Refusal) → SizeIs ns (Err e) after → parsed text ≡ refused (number e)
-  no_size e s = text-short text h ∙ ap sized (sym is) ∙ s.same
+  pub no_frame : (e : Refusal) → FrameIs ns (Err e) after → parsed text ≡ refused (number e)
+  no_frame e s = text-short text h ∙ ap sized (sym is) ∙ s.same
 
-  module _ (z : Size) (s : SizeIs ns (Ok z) after) (left : List (Option ℤ)) where
-    size-read : parsed text ≡ filled z after
-    size-read = text-short text h ∙ ap sized (sym is) ∙ s.same
+  module _ (z : Frame) (s : FrameIs ns (Ok z) after) (left : List (Option ℤ)) where
+    frame-read : parsed text ≡ filled z after
+    frame-read = text-short text h ∙ ap sized (sym is) ∙ s.same
 
     pub no-window : (e : Refusal) → WindowIs after (Err e) left → parsed text ≡ refused (number e)
-    no-window e w = size-read ∙ w.same z
+    no-window e w = frame-read ∙ w.same z
 
     module _ (w : Window) (seen : WindowIs after (Ok w) left) (area : List ℤ) (room : Roomy z area) (read : List ℤ) where
       -- what reading the levels answers
-      framed-read : (r : Option Unit) → levels_of (length (take (cells z) area)) left ≡ levels_told r read → parsed text ≡ framed z w (levels_told r read)
-      framed-read r e = size-read ∙ seen.same z ∙ ap (framed z w) (ap (λ n. levels_of n left) (sym (cells-part z area room)) ∙ e)
+      windowed-read : (r : Option Unit) → levels_of (length (take (cells z) area)) left ≡ levels_told r read → parsed text ≡ windowed z w (levels_told r read)
+      windowed-read r e = frame-read ∙ seen.same z ∙ ap (windowed z w) (ap (λ n. levels_of n left) (sym (cells-part z area room)) ∙ e)
 
       pub no-levels : (r : Option Unit) (e : Refusal) → levels_of (length (take (cells z) area)) left ≡ levels_told r read → Err e ≡ ok_or r line.Text → parsed text ≡ refused (number e)
-      no-levels None e l i = framed-read None l ∙ framed-none z w ∙ ap (λ x. refused (number x)) (text-is e i)
+      no-levels None e l i = windowed-read None l ∙ windowed-none z w ∙ ap (λ x. refused (number x)) (text-is e i)
         where
           text-is : (e : Refusal) → ◌≡◌ {A = Result Unit Refusal} (Err e) (Err line.Text) → line.Text ≡ e
           text-is e i = cc
       no-levels (Some u) e l i = absurd cc
 
       module _ (r : Option Unit) (l : levels_of (length (take (cells z) area)) left ≡ levels_told r read) (u : Unit) (some : r ≡ Some u) where
-        levels-read : parsed text ≡ framed z w (Some read)
-        levels-read = framed-read r l ∙ ap (λ x. framed z w (levels_told x read)) some
+        levels-read : parsed text ≡ windowed z w (Some read)
+        levels-read = windowed-read r l ∙ ap (λ x. windowed z w (levels_told x read)) some
 
         pub window-beyond : window_legal w ≡ false → parsed text ≡ refused 3
         window-beyond e = levels-read ∙ by-window z w read false e
 
-        pub picture-taken : window_legal w ≡ true → (rest : List ℤ) → length read ≡ length (take (cells z) area) → parsed text ≡ answered (record { size = z; window = w; levels = take (cells z) (read ++ rest) })
+        pub picture-taken : window_legal w ≡ true → (rest : List ℤ) → length read ≡ length (take (cells z) area) → parsed text ≡ answered (record { frame = z; window = w; levels = take (cells z) (read ++ rest) })
         picture-taken e rest size =
             levels-read ∙ by-window z w read true e ∙
-            ap (λ (m : List ℤ). answered (record { size = z; window = w; levels = m })) (sym (take_at read rest (cells z) (size ∙ cells-part z area room)))
+            ap (λ (m : List ℤ). answered (record { frame = z; window = w; levels = m })) (sym (take_at read rest (cells z) (size ∙ cells-part z area room)))

@@ -14,37 +14,37 @@ use lib.IntN.{ℤ}
 use mir.Syntax.{w16}
 use mir.Val.{SFits}
 use Rattle.spec_picture.specs.Refusal.{Outcome, refused, answered}
-use Rattle.spec_picture.specs.declared.Size.{Size}
-use Rattle.spec_picture.specs.Size.{size, cells}
+use Rattle.spec_picture.specs.declared.Frame.{Frame}
+use Rattle.spec_picture.specs.Frame.{frame, cells}
 use Rattle.spec_picture.specs.declared.Window.{Window}
 use Rattle.spec_picture.specs.Window.{window, window_legal}
 use Rattle.spec_picture.proofs.Refusals.{in-limits}
 use Rattle.spec_smoothing.specs.Smoothing.{smoothed}
 use Rattle.spec_smoothing.proofs.Means.{mean-level, smoothed-at}
 use Rattle.spec_panel.specs.Text.{space, line_feed, runs, number, decimal, printed}
-use Rattle.spec_panel.specs.Panel.{Drawing, count_of, panel_size, levels_of, framed, filled, sized, parsed, line_of, lines_of, shown, panel}
+use Rattle.spec_panel.specs.Panel.{Drawing, count_of, panel_frame, levels_of, windowed, filled, sized, parsed, line_of, lines_of, shown, panel}
 use Rattle.panel_text.specs.Print.{value_at}
 use Rattle.panel_text.specs.Rendered.{Rendering, rendered}
 use Rattle.spec_panel.proofs.Legal.{Legal, parsed-legal}
 use Rattle.panel_text.proofs.Bytes.{few-digits, level-bytes}
 use Rattle.panel_text.proofs.Drawings.{cells-few}
-use Rattle.panel_text.proofs.Shows.{in_size}
+use Rattle.panel_text.proofs.Shows.{in_frame}
 
 -- ---- a refusal's number has at most two digits
 abbrev Small : Outcome Drawing → Type 0
 Small (refused n) = n ≤ 10
 Small (answered d) = Unit
 
-framed-small : (z : Size) (w : Window) (o : Option (List ℤ)) → Small (framed z w o)
-unfolding framed
-framed-small z w None = omega arith
-framed-small z w (Some l) = go (window_legal w)
+windowed-small : (z : Frame) (w : Window) (o : Option (List ℤ)) → Small (windowed z w o)
+unfolding windowed
+windowed-small z w None = omega arith
+windowed-small z w (Some l) = go (window_legal w)
   where
-    go : (b : Bool) → Small (elim b [ true ↦ answered (record { size = z; window = w; levels = l }) | false ↦ refused 3 ])
+    go : (b : Bool) → Small (elim b [ true ↦ answered (record { frame = z; window = w; levels = l }) | false ↦ refused 3 ])
     go true = tt
     go false = omega arith
 
-filled-small : (z : Size) (ns : List (Option ℤ)) → Small (filled z ns)
+filled-small : (z : Frame) (ns : List (Option ℤ)) → Small (filled z ns)
 unfolding filled
 filled-small z [] = omega arith
 filled-small z (None ∷ ns) = omega arith
@@ -52,7 +52,7 @@ filled-small z (Some s ∷ []) = omega arith
 filled-small z (Some s ∷ None ∷ ns) = omega arith
 filled-small z (Some s ∷ Some a ∷ []) = omega arith
 filled-small z (Some s ∷ Some a ∷ None ∷ ns) = omega arith
-filled-small z (Some s ∷ Some a ∷ Some b ∷ ns) = framed-small z (window (count_of s) a b) (levels_of (cells z) ns)
+filled-small z (Some s ∷ Some a ∷ Some b ∷ ns) = windowed-small z (window (count_of s) a b) (levels_of (cells z) ns)
 
 sized-small : (ns : List (Option ℤ)) → Small (sized ns)
 unfolding sized
@@ -60,10 +60,10 @@ sized-small [] = omega arith
 sized-small (None ∷ ns) = omega arith
 sized-small (Some r ∷ []) = omega arith
 sized-small (Some r ∷ None ∷ ns) = omega arith
-sized-small (Some r ∷ Some c ∷ ns) = go (panel_size (size (count_of r) (count_of c)))
+sized-small (Some r ∷ Some c ∷ ns) = go (panel_frame (frame (count_of r) (count_of c)))
   where
-    go : (b : Bool) → Small (elim b [ true ↦ filled (size (count_of r) (count_of c)) ns | false ↦ refused 1 ])
-    go true = filled-small (size (count_of r) (count_of c)) ns
+    go : (b : Bool) → Small (elim b [ true ↦ filled (frame (count_of r) (count_of c)) ns | false ↦ refused 1 ])
+    go true = filled-small (frame (count_of r) (count_of c)) ns
     go false = omega arith
 
 parsed-small : (text : List ℕ) → Small (parsed text)
@@ -97,23 +97,23 @@ refused-length n h = omega (arith, length-append (decimal n) (line_feed ∷ []),
 
 module _ (d : Drawing) (l : Legal d) where
   abbrev means : List ℤ
-  means = smoothed d.size d.levels d.window
+  means = smoothed d.frame d.levels d.window
 
-  mean-bytes : (i j : ℕ) → i < d.size.rows → j < d.size.columns → length (printed (value_at d.size.columns means i j)) ≤ 6
+  mean-bytes : (i j : ℕ) → i < d.frame.rows → j < d.frame.columns → length (printed (value_at d.frame.columns means i j)) ≤ 6
   mean-bytes i j hi hj =
-      let e = smoothed-at d.size d.levels d.window i j hi hj in
-      let f : SFits w16 (value_at d.size.columns means i j) = record { sfits = rw e (mean-level d.size d.levels d.window l.levels i j hi hj) } in
-      level-bytes (value_at d.size.columns means i j) f
+      let e = smoothed-at d.frame d.levels d.window i j hi hj in
+      let f : SFits w16 (value_at d.frame.columns means i j) = record { sfits = rw e (mean-level d.frame d.levels d.window l.levels i j hi hj) } in
+      level-bytes (value_at d.frame.columns means i j) f
 
   shown-length : length (shown (answered d)) ≤ 28672
   unfolding shown
   shown-length =
-      let c = d.size.columns in
-      let few = cells-few d.size l.size in
-      let some_columns = (in-limits d.size (in_size d.size l.size)).some_columns in
+      let c = d.frame.columns in
+      let few = cells-few d.frame l.frame in
+      let some_columns = (in-limits d.frame (in_frame d.frame l.frame)).some_columns in
       omega (
         arith,
-        lines-length (value_at c means) 0 d.size.rows c
+        lines-length (value_at c means) 0 d.frame.rows c
             (λ k h. let e : 0 + k ≡ k = omega arith in rw e (line-length (value_at c means k) c some_columns (λ j g. mean-bytes k j h g))),
       )
 

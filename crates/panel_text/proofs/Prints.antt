@@ -12,7 +12,7 @@ use lib.Seq.{get_or-append_seam}
 use borrow.Rule.Slice.PartMut.{put_mid}
 use Rattle.numbers.proofs.Lines.{line-end, line-next}
 use Rattle.numbers.proofs.Writes.{at, slice_at, slice-length}
-use Rattle.spec_picture.specs.declared.Size.{Size}
+use Rattle.spec_picture.specs.declared.Frame.{Frame}
 use Rattle.spec_panel.specs.Text.{space, line_feed, printed}
 use Rattle.spec_panel.specs.Panel.{line_of, lines_of}
 use Rattle.panel_text.specs.Print.{Written, Fitted, value_at, LineRoom, LineWritten, LinesRoom}
@@ -143,12 +143,12 @@ row_is means lo i c e h =
     rw n (line-cong (at (take (lo + c - lo) (drop lo means))) (value_at c means i) c (λ j l. slice_at lo (lo + c) means (omega arith) h j (omega arith) ∙ ap (λ (m : ℕ). at means (m + j)) e))
 
 -- the lines of the first i rows are written
-pub record LinesUpto (z : Size) (means : List ℤ) (old new : List ℕ) (count i : ℕ) : Type 0 where
+pub record LinesUpto (z : Frame) (means : List ℤ) (old new : List ℕ) (count i : ℕ) : Type 0 where
   pub inside : i ≤ z.rows
   pub room : count ≤ 7 * (i * z.columns)
   pub rest : Remaining (lines_of (value_at z.columns means) 0 z.rows z.columns) old (lines_of (value_at z.columns means) i (z.rows - i) z.columns) new count
 
-module _ (z : Size) (means : List ℤ) (old new : List ℕ) (count i : ℕ) (asked : LinesRoom z means old) (u : LinesUpto z means old new count i) where
+module _ (z : Frame) (means : List ℤ) (old new : List ℕ) (count i : ℕ) (asked : LinesRoom z means old) (u : LinesUpto z means old new count i) where
   pub count-inside : count ≤ length old
   count-inside = omega (arith, u.room, asked.room, mul-le-mul_right z.columns u.inside)
 

@@ -13,8 +13,8 @@ use lib.Seq.{take_at, length-take-le}
 use lib.IntN.{ℤ}
 use Rattle.numbers.proofs.Tests.{and_left, not-of}
 use Rattle.spec_picture.specs.Refusal.{Filling, refusal}
-use Rattle.spec_picture.specs.declared.Size.{Size}
-use Rattle.spec_picture.specs.Size.{size_legal, cells}
+use Rattle.spec_picture.specs.declared.Frame.{Frame}
+use Rattle.spec_picture.specs.Frame.{frame_legal, cells}
 use Rattle.spec_picture.specs.declared.Window.{Window}
 use Rattle.spec_picture.specs.Window.{window_legal}
 use Rattle.spec_picture.proofs.Refusals.{pass, no-checks, length-passes, in-limits}
@@ -23,7 +23,7 @@ use Rattle.spec_smoothing.proofs.Means.{smooth-writes}
 use Rattle.std.specs.Prelude.{Result, Ok, Err}
 use Rattle.spec_picture.specs.Answers.{number}
 use Rattle.spec_picture.specs.declared.Refusal.{Refusal}
-use Rattle.spec_panel.specs.Panel.{panel_size, lines_of, refused_line, parsed, shown, panel}
+use Rattle.spec_panel.specs.Panel.{panel_frame, lines_of, refused_line, parsed, shown, panel}
 use Rattle.panel_text.specs.Read.{drawn}
 use Rattle.panel_text.specs.Print.{Fitted, value_at, LinesRoom}
 use Rattle.panel_text.specs.Shown.{Showable}
@@ -31,11 +31,11 @@ use Rattle.panel_text.specs.Rendered.{Rendering, rendered}
 use Rattle.spec_panel.proofs.Legal.{parsed-legal}
 use Rattle.panel_text.proofs.Drawings.{cells-few, cells-part}
 
-pub in_size : (z : Size) → T (panel_size z) → T (size_legal z)
-unfolding panel_size
-in_size z t = and_left (size_legal z) (leb (cells z) 4096) t
+pub in_frame : (z : Frame) → T (panel_frame z) → T (frame_legal z)
+unfolding panel_frame
+in_frame z t = and_left (frame_legal z) (leb (cells z) 4096) t
 
-module _ (z : Size) (w : Window) (levels : List ℤ) (out : List ℕ) (s : Showable z w levels out) where
+module _ (z : Frame) (w : Window) (levels : List ℤ) (out : List ℕ) (s : Showable z w levels out) where
   pub show-cells : cells z ≤ 4096
   show-cells = cells-few z s.picture.legal
 
@@ -47,7 +47,7 @@ module _ (z : Size) (w : Window) (levels : List ℤ) (out : List ℕ) (s : Showa
 
   smooth-passes : (old : List ℤ) → length old ≡ cells z → refusal (smooth_checks z (take (cells z) levels) w old) ≡ none
   smooth-passes old e =
-      pass 1 _ _ (not-of (size_legal z) (in_size z s.picture.legal)) ∙
+      pass 1 _ _ (not-of (frame_legal z) (in_frame z s.picture.legal)) ∙
       pass 2 _ _ (length-passes (length (take (cells z) levels)) (cells z) (sym show-part)) ∙
       pass 3 _ _ (not-of (window_legal w) s.window) ∙ pass 8 _ _ (length-passes (length old) (cells z) e) ∙ no-checks
 
@@ -64,7 +64,7 @@ module _ (z : Size) (w : Window) (levels : List ℤ) (out : List ℕ) (s : Showa
 
     pub lines-room : LinesRoom z (take (cells z) (new ++ rest)) out
     lines-room = record {
-      some_column = (in-limits z (in_size z s.picture.legal)).some_columns;
+      some_column = (in-limits z (in_frame z s.picture.legal)).some_columns;
       full = sym means-part;
       room = omega (arith, show-cells, s.room);
     }
@@ -91,20 +91,20 @@ module _ (text old : List ℕ) where
       let e = by-room true (lt-ltb (length old) 28672 h) in
       (sym (ap (λ (r : Rendering). r.count) e), sym (ap (λ (r : Rendering). r.area) e))
 
-  module _ (h : 28672 ≤ length old) (r : Result (Size × Window) Refusal) (levels : List ℤ) (p : parsed text ≡ drawn r levels) where
-    pub legal-show : (z : Size) (w : Window) → r ≡ Ok (z, w) → 4096 ≤ length levels → Showable z w levels old
+  module _ (h : 28672 ≤ length old) (r : Result (Frame × Window) Refusal) (levels : List ℤ) (p : parsed text ≡ drawn r levels) where
+    pub legal-show : (z : Frame) (w : Window) → r ≡ Ok (z, w) → 4096 ≤ length levels → Showable z w levels old
     legal-show z w is full =
-        let l = parsed-legal text (record { size = z; window = w; levels = take (cells z) levels }) (p ∙ ap (λ (x : Result (Size × Window) Refusal). drawn x levels) is) in
-        record { picture = record { legal = l.size; room = full }; window = l.window; room = h }
+        let l = parsed-legal text (record { frame = z; window = w; levels = take (cells z) levels }) (p ∙ ap (λ (x : Result (Frame × Window) Refusal). drawn x levels) is) in
+        record { picture = record { legal = l.frame; room = full }; window = l.window; room = h }
 
     panel-is : panel text ≡ shown (drawn r levels)
     unfolding panel
     panel-is = ap shown p
 
-    pub panel-rendered : (x : Result (Size × Window) Refusal) → r ≡ x → (new : List ℕ) (end : ℕ) → Fitted (shown (drawn x levels)) old new end → (end ≡ (rendered text old).count) × (new ≡ (rendered text old).area)
+    pub panel-rendered : (x : Result (Frame × Window) Refusal) → r ≡ x → (new : List ℕ) (end : ℕ) → Fitted (shown (drawn x levels)) old new end → (end ≡ (rendered text old).count) × (new ≡ (rendered text old).area)
     panel-rendered x is new end f =
         let e = by-room false (le-ltb (length old) 28672 h) in
-        let b : shown (drawn x levels) ≡ panel text = ap (λ (y : Result (Size × Window) Refusal). shown (drawn y levels)) (sym is) ∙ sym panel-is in
+        let b : shown (drawn x levels) ≡ panel text = ap (λ (y : Result (Frame × Window) Refusal). shown (drawn y levels)) (sym is) ∙ sym panel-is in
         let g : Fitted (panel text) old new end = subst (λ (l : List ℕ). Fitted l old new end) b f in
         let a : new ≡ (rendered text old).area = g.written.area ∙ ap (λ (k : ℕ). panel text ++ drop k old) g.written.counted ∙ sym (ap (λ (r : Rendering). r.area) e) in
         (g.written.counted ∙ sym (ap (λ (r : Rendering). r.count) e), a)

@@ -1,8 +1,8 @@
 -- What the code that prints means: bytes written to the front of an area, and the room for them.
 -- Assumes nothing.
 use Rattle.std.specs.Prelude.{◌≡◌, ℕ, ◌+◌, ◌*◌, ◌≤◌, List, ◌++◌, length, drop, get_or, ℤ, pos}
-use Rattle.spec_picture.specs.declared.Size.{Size}
-use Rattle.spec_picture.specs.Size.{cells}
+use Rattle.spec_picture.specs.declared.Frame.{Frame}
+use Rattle.spec_picture.specs.Frame.{cells}
 use Rattle.spec_panel.specs.Panel.{line_of}
 
 -- `new` begins with the bytes, so many, and its rest is that of `old`
@@ -28,7 +28,7 @@ pub record LineWritten (row : List ℤ) (old new : List ℕ) (count : ℕ) : Typ
   pub written : Written (line_of (λ j. get_or row j (pos 0)) (length row)) old new count
   pub short : count ≤ 7 * length row
 
-pub record LinesRoom (z : Size) (means : List ℤ) (area : List ℕ) : Type 0 where
+pub record LinesRoom (z : Frame) (means : List ℤ) (area : List ℕ) : Type 0 where
   pub some_column : 1 ≤ z.columns
   pub full : length means ≡ cells z
   pub room : 7 * cells z ≤ length area

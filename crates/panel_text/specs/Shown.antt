@@ -1,13 +1,13 @@
 -- What showing a picture asks of its caller.
 -- Assumes nothing.
 use Rattle.std.specs.Prelude.{ℕ, ◌≤◌, List, T, length, ℤ}
-use Rattle.spec_picture.specs.declared.Size.{Size}
+use Rattle.spec_picture.specs.declared.Frame.{Frame}
 use Rattle.spec_picture.specs.declared.Window.{Window}
 use Rattle.spec_picture.specs.Window.{window_legal}
 use Rattle.panel_text.specs.Read.{Roomy}
 
 -- a picture and a window that are legal, an area that begins with its levels, and room for all lines
-pub record Showable (z : Size) (w : Window) (levels : List ℤ) (area : List ℕ) : Type 0 where
+pub record Showable (z : Frame) (w : Window) (levels : List ℤ) (area : List ℕ) : Type 0 where
   pub picture : Roomy z levels
   pub window : T (window_legal w)
   pub room : 28672 ≤ length area

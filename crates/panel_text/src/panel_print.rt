@@ -8,7 +8,7 @@ ghost use Rattle.spec_panel.specs.Panel.{lines_of, refused_line};
 ghost use Rattle.panel_text.specs.Print.{Written, Fitted, LineRoom, LineWritten, LinesRoom, value_at};
 
 use itoa::Buffer;
-use spec_picture::{Refusal, Size};
+use spec_picture::{Frame, Refusal};
 
 // Bytes, copied to the front of the area.
 fn put(bytes: &[u8], out: &mut [u8]) -> usize
@@ -52,14 +52,14 @@ fn line(row: &[i16], out: &mut [u8]) -> usize
 }
 
 // "one line a row"
-pub fn lines(size: Size, means: &[i16], out: &mut [u8]) -> usize
-    requires { LinesRoom size means.now out.old }
-    ensures { Fitted (lines_of (value_at size.columns means.now) 0 size.rows size.columns) out.old out.new result }
+pub fn lines(frame: Frame, means: &[i16], out: &mut [u8]) -> usize
+    requires { LinesRoom frame means.now out.old }
+    ensures { Fitted (lines_of (value_at frame.columns means.now) 0 frame.rows frame.columns) out.old out.new result }
 {
     let mut len = 0;
-    for i in 0..size.rows {
-        let start = i * size.columns;
-        len += line(&means[start..start + size.columns], &mut out[len..]);
+    for i in 0..frame.rows {
+        let start = i * frame.columns;
+        len += line(&means[start..start + frame.columns], &mut out[len..]);
     }
     len
 }

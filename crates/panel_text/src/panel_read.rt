@@ -1,13 +1,13 @@
-// From the numbers of panel's text to what it asks for: the size, the window, the levels.
+// From the numbers of panel's text to what it asks for: the frame, the window, the levels.
 
 ghost use Rattle.std.specs.Prelude.{◌≡◌, ◌≤◌, length};
-ghost use Rattle.spec_panel.specs.Panel.{count_of, panel_size, parsed};
-ghost use Rattle.panel_text.specs.Read.{NumberIs, SizeIs, WindowIs, drawn};
+ghost use Rattle.spec_panel.specs.Panel.{count_of, panel_frame, parsed};
+ghost use Rattle.panel_text.specs.Read.{NumberIs, FrameIs, WindowIs, drawn};
 
 use crate::panel_levels::read_levels;
 use crate::panel_scan::Numbers;
-use checks::legal_sizes;
-use spec_picture::{Refusal, Size, Window};
+use checks::legal_frames;
+use spec_picture::{Frame, Refusal, Window};
 
 // A number that counts, 0 if it is negative.
 fn count(n: i32) -> u32
@@ -17,10 +17,10 @@ fn count(n: i32) -> u32
 }
 
 // "either beyond limits or more than 4,096 cells"
-fn size_legal(size: Size) -> bool
-    ensures { result ≡ panel_size size }
+fn frame_legal(frame: Frame) -> bool
+    ensures { result ≡ panel_frame frame }
 {
-    legal_sizes::size_legal(size) && size.rows * size.columns <= 4096
+    legal_frames::frame_legal(frame) && frame.rows * frame.columns <= 4096
 }
 
 // The number that stands next: "malformed or missing, 10".
@@ -31,16 +31,16 @@ fn read_number(numbers: &mut Numbers) -> Result<i32, Refusal>
 }
 
 // "rows or columns malformed or missing, 10; either beyond limits or more than 4,096 cells, 1"
-fn read_size(numbers: &mut Numbers) -> Result<Size, Refusal>
-    ensures { SizeIs numbers.old result numbers.new }
+fn read_frame(numbers: &mut Numbers) -> Result<Frame, Refusal>
+    ensures { FrameIs numbers.old result numbers.new }
 {
     let rows = count(read_number(numbers)?) as usize;
     let columns = count(read_number(numbers)?) as usize;
-    let size = Size { rows, columns };
-    if !size_legal(size) {
+    let frame = Frame { rows, columns };
+    if !frame_legal(frame) {
         return Err(Refusal::Size);
     }
-    Ok(size)
+    Ok(frame)
 }
 
 // The shape and the two window numbers.
@@ -57,9 +57,9 @@ fn read_window(numbers: &mut Numbers) -> Result<Window, Refusal>
     })
 }
 
-// The size and the window of the picture that the text asks for; its levels are the first of the area, and the size says how many. As given and in no checked type, since
+// The frame and the window of the picture that the text asks for; its levels are the first of the area, and the frame says how many. As given and in no checked type, since
 // `smoothing::smooth`, for which they are read, checks what any caller gives.
-pub fn parse(text: &[u8], levels: &mut [i16]) -> Result<(Size, Window), Refusal>
+pub fn parse(text: &[u8], levels: &mut [i16]) -> Result<(Frame, Window), Refusal>
     requires { 4096 ≤ length levels.old }
     ensures { parsed text.now ≡ drawn result levels.new }
 {
@@ -67,9 +67,9 @@ pub fn parse(text: &[u8], levels: &mut [i16]) -> Result<(Size, Window), Refusal>
         return Err(Refusal::Text);
     }
     let mut numbers = Numbers::new(text);
-    let size = read_size(&mut numbers)?;
+    let frame = read_frame(&mut numbers)?;
     let window = read_window(&mut numbers)?;
-    read_levels(&mut numbers, &mut levels[..size.rows * size.columns]).ok_or(Refusal::Text)?;
+    read_levels(&mut numbers, &mut levels[..frame.rows * frame.columns]).ok_or(Refusal::Text)?;
     checks::check_window(window)?;
-    Ok((size, window))
+    Ok((frame, window))
 }

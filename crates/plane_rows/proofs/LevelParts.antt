@@ -13,7 +13,7 @@ use borrow.Rule.Slice.PartMut.{put_mid}
 use Rattle.numbers.specs.Grid.{tabulate}
 use Rattle.numbers.proofs.Grids.{length-tabulate, tabulate-cong}
 use Rattle.numbers.proofs.Writes.{at, is-tabulate, tabulate-at, Upto, upto-none, upto-part, upto_all, slice_at, slice-length}
-use Rattle.spec_picture.specs.Size.{cells}
+use Rattle.spec_picture.specs.Frame.{cells}
 use Rattle.spec_picture.specs.Picture.{Source, plane_value, plane_at}
 use Rattle.plane_rows.specs.declared.overlaps.overlap.Overlap.{Overlap}
 use Rattle.plane_rows.specs.declared.factors.Factor.TheVariants.{One, F, G}
@@ -29,16 +29,16 @@ module _ (P : ℕ → ℕ → ℤ) (m : ℕ) (l : List ℤ) where
   pub cells-of : (start end n : ℕ) → start + n ≡ end → l ≡ tabulate n (λ k. P m (start + k)) → Cells P m start end l
   cells-of start end n e t =
       let size : length l ≡ n = ap length t ∙ length-tabulate n (λ k. P m (start + k)) in
-      record { size = omega (arith, e, size); same = λ k k<. tabulate-at l n (λ k. P m (start + k)) t k k<; }
+      record { size = omega (arith, e, size); same = λ k k<. tabulate-at l n (λ k. P m (start + k)) t k k< }
 
   -- that of the first n columns
   pub at-place : (n : ℕ) → Cells P m 0 n l → (k : ℕ) → k < length l → at l k ≡ P m k
   at-place n c k k< = let here : 0 + k ≡ k = omega arith in c.same k k< ∙ ap (P m) here
 
 -- ---- columns that all count, in a row that does
-module _ (x : Source) (rows columns : Overlap) (c : Counting x.size x.shift rows columns) (m start end : ℕ) (a : AllCount columns start end) where
+module _ (x : Source) (rows columns : Overlap) (c : Counting x.frame x.shift rows columns) (m start end : ℕ) (a : AllCount columns start end) where
   abbrev width : ℕ
-  width = x.size.columns
+  width = x.frame.columns
 
   -- none of a row that does not
   pub zeros-there : end - start ≤ 1024 → (rows.first ≤ m → m < rows.end → ⊥) → take (end - start) (replicate 1024 (pos 0)) ≡ tabulate (end - start) (λ k. plane_at x m (start + k))
@@ -51,10 +51,10 @@ module _ (x : Source) (rows columns : Overlap) (c : Counting x.size x.shift rows
         filled-part (end - start) 1024 (pos 1) few
         ∙ tabulate-cong (end - start) (λ k. pos 1) _ (λ k k<. sym (value-there (on_factor x One) rows columns c m (start + k) from_row upto_row (omega (arith, a.from)) (omega (arith, a.upto))))
 
-    pub f-ends : length x.f ≡ cells x.size → m * width + end ≤ length x.f
-    f-ends size = omega (arith, size, a.upto, c.by_column.within, row-end m x.size.rows width (omega (arith, upto_row, c.by_row.within)))
+    pub f-ends : length x.f ≡ cells x.frame → m * width + end ≤ length x.f
+    f-ends size = omega (arith, size, a.upto, c.by_column.within, row-end m x.frame.rows width (omega (arith, upto_row, c.by_row.within)))
 
-    pub f-there : length x.f ≡ cells x.size → take (m * width + end - (m * width + start)) (drop (m * width + start) x.f) ≡ tabulate (end - start) (λ k. plane_at (on_factor x F) m (start + k))
+    pub f-there : length x.f ≡ cells x.frame → take (m * width + end - (m * width + start)) (drop (m * width + start) x.f) ≡ tabulate (end - start) (λ k. plane_at (on_factor x F) m (start + k))
     unfolding plane_value
     f-there size =
         let lo = m * width + start in
@@ -68,12 +68,12 @@ module _ (x : Source) (rows columns : Overlap) (c : Counting x.size x.shift rows
     abbrev begin : ℕ
     begin = (rows.other + (m - rows.first)) * width + columns.other
 
-    pub g-ends : length x.g ≡ cells x.size → begin + (end - columns.first) ≤ length x.g
+    pub g-ends : length x.g ≡ cells x.frame → begin + (end - columns.first) ≤ length x.g
     g-ends size =
-        let row : rows.other + (m - rows.first) < x.size.rows = omega (arith, from_row, upto_row, c.by_row.other_within) in
-        omega (arith, size, a.upto, c.by_column.other_within, row-end (rows.other + (m - rows.first)) x.size.rows width row)
+        let row : rows.other + (m - rows.first) < x.frame.rows = omega (arith, from_row, upto_row, c.by_row.other_within) in
+        omega (arith, size, a.upto, c.by_column.other_within, row-end (rows.other + (m - rows.first)) x.frame.rows width row)
 
-    pub g-there : length x.g ≡ cells x.size → take (begin + (end - columns.first) - (begin + (start - columns.first))) (drop (begin + (start - columns.first)) x.g) ≡ tabulate (end - start) (λ k. plane_at (on_factor x G) m (start + k))
+    pub g-there : length x.g ≡ cells x.frame → take (begin + (end - columns.first) - (begin + (start - columns.first))) (drop (begin + (start - columns.first)) x.g) ≡ tabulate (end - start) (λ k. plane_at (on_factor x G) m (start + k))
     unfolding plane_value
     g-there size =
         let lo = begin + (start - columns.first) in
@@ -87,7 +87,7 @@ module _ (x : Source) (rows columns : Overlap) (c : Counting x.size x.shift rows
         ∙ sym (value-there (on_factor x G) rows columns c m (start + k) from_row upto_row (omega (arith, a.from)) (omega (arith, a.upto))))
 
 -- ---- plane 0 in columns that count: one in all of them, or in none
-pub plane-0 : (x : Source) (rows columns : Overlap) (c : Counting x.size x.shift rows columns) (m n : ℕ) (b : Bool) → b ≡ (leb rows.first m && ltb m rows.end) → columns.first ≤ n → n < columns.end → plane_at (on_factor x One) m n ≡ pos (bool_byte b)
+pub plane-0 : (x : Source) (rows columns : Overlap) (c : Counting x.frame x.shift rows columns) (m n : ℕ) (b : Bool) → b ≡ (leb rows.first m && ltb m rows.end) → columns.first ≤ n → n < columns.end → plane_at (on_factor x One) m n ≡ pos (bool_byte b)
 unfolding plane_value
 plane-0 x rows columns c m n false e from upto = row-outside (on_factor x One) rows columns c m n (none-among rows.first rows.end m false e refl)
 plane-0 x rows columns c m n true e from upto =
@@ -95,7 +95,7 @@ plane-0 x rows columns c m n true e from upto =
     value-there (on_factor x One) rows columns c m n row.0 row.1 from upto
 
 -- ---- a whole row, written into a row of numbers: zeros, the columns that count, and zeros
-module _ (x : Source) (rows columns : Overlap) (c : Counting x.size x.shift rows columns) (m : ℕ) (out : List ℤ) (full : length out ≡ x.size.columns)
+module _ (x : Source) (rows columns : Overlap) (c : Counting x.frame x.shift rows columns) (m : ℕ) (out : List ℤ) (full : length out ≡ x.frame.columns)
     (before : List ℤ) (e : before ≡ tabulate (length (take (columns.first - 0) (drop 0 out))) (λ k. pos 0)) where
   abbrev row : ℕ → ℤ
   row = plane_at x m
@@ -110,7 +110,7 @@ module _ (x : Source) (rows columns : Overlap) (c : Counting x.size x.shift rows
   once = put_mid 0 (columns.first - 0) out before
 
   -- a column that does not count is 0
-  none : (l : List ℤ) (q : ℕ) → l ≡ tabulate q (λ k. pos 0) → (lo k : ℕ) → k < length l → lo + k < x.size.columns → (columns.first ≤ lo + k → lo + k < columns.end → ⊥) → at l k ≡ row (lo + k)
+  none : (l : List ℤ) (q : ℕ) → l ≡ tabulate q (λ k. pos 0) → (lo k : ℕ) → k < length l → lo + k < x.frame.columns → (columns.first ≤ lo + k → lo + k < columns.end → ⊥) → at l k ≡ row (lo + k)
   none l q t lo k k< inside never = tabulate-at l q (λ k. pos 0) t k k< ∙ sym (column-outside x rows columns c m (lo + k) inside never)
 
   length_before : length before ≡ columns.first - 0
@@ -128,13 +128,13 @@ module _ (x : Source) (rows columns : Overlap) (c : Counting x.size x.shift rows
     part-written : Upto row out twice columns.end
     part-written = upto-part first-written columns.end within columns.ordered h (omega (arith, w.size)) (λ k k<. w.same k (omega (arith, w.size)))
 
-    pub row-written : (after : List ℤ) → after ≡ tabulate (length (take (x.size.columns - columns.end) (drop columns.end twice))) (λ k. pos 0) →
-        put_mid columns.end (x.size.columns - columns.end) twice after ≡ tabulate x.size.columns row
+    pub row-written : (after : List ℤ) → after ≡ tabulate (length (take (x.frame.columns - columns.end) (drop columns.end twice))) (λ k. pos 0) →
+        put_mid columns.end (x.frame.columns - columns.end) twice after ≡ tabulate x.frame.columns row
     row-written after t =
-        let rest : length (take (x.size.columns - columns.end) (drop columns.end twice)) ≡ x.size.columns - columns.end = slice-length columns.end x.size.columns twice c.by_column.within (omega (arith, part-written.size, full)) in
-        let long : length after ≡ x.size.columns - columns.end = ap length t ∙ length-tabulate _ (λ k. pos 0) ∙ rest in
+        let rest : length (take (x.frame.columns - columns.end) (drop columns.end twice)) ≡ x.frame.columns - columns.end = slice-length columns.end x.frame.columns twice c.by_column.within (omega (arith, part-written.size, full)) in
+        let long : length after ≡ x.frame.columns - columns.end = ap length t ∙ length-tabulate _ (λ k. pos 0) ∙ rest in
         upto_all
-        (upto-part part-written x.size.columns after c.by_column.within (omega (arith, full)) long
+        (upto-part part-written x.frame.columns after c.by_column.within (omega (arith, full)) long
         (λ k k<. none after _ t columns.end k (omega (arith, long)) (omega arith) (λ u v. omega arith)))
         (omega (arith, full))
         ∙ ap (λ (n : ℕ). tabulate n row) full

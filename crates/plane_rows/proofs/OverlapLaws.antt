@@ -14,7 +14,7 @@ use mir.Val.{SFits, of_z, to_z}
 use Rattle.numbers.proofs.Tests.{and_left, and_right, and_both, same_test, off}
 use Rattle.numbers.proofs.Wraps.{sub_low, sub-high}
 use Rattle.plane_rows.specs.declared.overlaps.overlap.Overlap.{Overlap}
-use Rattle.spec_picture.specs.Size.{in_range}
+use Rattle.spec_picture.specs.Frame.{in_range}
 use Rattle.plane_rows.specs.Overlaps.{Overlapping}
 
 -- ---- the test that k is one of the places from lo up to hi

@@ -31,4 +31,4 @@ is_level (made_of.Product q r) = false
 
 -- the same inputs with the plane of a factor
 abbrev pub on_factor : Source → Factor → Source
-on_factor x q = source x.size x.f x.g x.shift (factor_number q)
+on_factor x q = source x.frame x.f x.g x.shift (factor_number q)

@@ -2,7 +2,7 @@
 -- Assumes nothing.
 use Rattle.std.specs.Prelude.{◌≡◌, ℕ, ◌+◌, ◌-◌, ◌≤◌, ◌<◌, ◌&&◌, leb, ltb, ℤ, pos, nat_abs, ◌+ℤ◌}
 use Rattle.plane_rows.specs.declared.overlaps.overlap.Overlap.{Overlap}
-use Rattle.spec_picture.specs.Size.{in_range}
+use Rattle.spec_picture.specs.Frame.{in_range}
 
 -- the places from `first` up to `end` are those of the n places k for which k + d is one of them too, and k + d is as far from `other` as k is from `first`
 pub record Overlapping (n : ℕ) (d : ℤ) (o : Overlap) : Type 0 where

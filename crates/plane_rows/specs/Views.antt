@@ -1,10 +1,10 @@
 -- The rows and the columns of a picture that count.
 -- Assumes nothing.
-use Rattle.spec_picture.specs.declared.Size.{Size}
+use Rattle.spec_picture.specs.declared.Frame.{Frame}
 use Rattle.spec_picture.specs.declared.Shift.{Shift}
 use Rattle.plane_rows.specs.declared.overlaps.overlap.Overlap.{Overlap}
 use Rattle.plane_rows.specs.Overlaps.{Overlapping}
 
-pub record Counting (z : Size) (d : Shift) (rows columns : Overlap) : Type 0 where
+pub record Counting (z : Frame) (d : Shift) (rows columns : Overlap) : Type 0 where
   pub by_row : Overlapping z.rows d.down rows
   pub by_column : Overlapping z.columns d.right columns

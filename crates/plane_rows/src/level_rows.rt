@@ -15,6 +15,7 @@ use spec_picture::CheckedSource;
 
 // Rows of zeros and of ones, as long as the longest row of a picture.
 const ZEROS: [i16; 1024] = [0; 1024];
+
 const ONES: [i16; 1024] = [1; 1024];
 
 // Every number of out is the value. One function for this and `plane_values::fill` is no plainer: of a type parameter the library's fill asks that its clone
@@ -35,21 +36,15 @@ fn copy(levels: &[i16], out: &mut [i16])
 }
 
 // The columns from `start` up to `end` of a row, all of which count if the row does: as the picture has them, and zeros if it does not.
-#[tactic(auto, unfolding(spec_picture::specs::Size::size_legal))]
-pub fn part<'a>(
-    view: &View<'a>,
-    factor: Factor,
-    row: usize,
-    start: usize,
-    end: usize,
-) -> &'a [i16]
+#[tactic(auto, unfolding(spec_picture::specs::Frame::frame_legal))]
+pub fn part<'a>(view: &View<'a>, factor: Factor, row: usize, start: usize, end: usize) -> &'a [i16]
     requires { AllCount view.now.columns start end }
     ensures { Cells (plane_at (on_factor (checked_source view.now.source) factor)) row start end result.now }
 {
     if !view.has_row(row) {
         return &ZEROS[..end - start];
     }
-    let width = view.source.size.columns;
+    let width = view.source.frame.columns;
     match factor {
         Factor::One => &ONES[..end - start],
         Factor::F => {
@@ -67,9 +62,9 @@ pub fn part<'a>(
 
 // A whole row as the picture has it, where all columns count.
 pub fn own_row<'a>(view: &View<'a>, factor: Factor, row: usize) -> Option<&'a [i16]>
-    ensures { IfSome result (λ levels. Cells (plane_at (on_factor (checked_source view.now.source) factor)) row 0 view.now.source.size.columns levels.now) }
+    ensures { IfSome result (λ levels. Cells (plane_at (on_factor (checked_source view.now.source) factor)) row 0 view.now.source.frame.columns levels.now) }
 {
-    let width = view.source.size.columns;
+    let width = view.source.frame.columns;
     if 0 < view.columns.first || view.columns.end < width {
         return None;
     }
@@ -78,10 +73,10 @@ pub fn own_row<'a>(view: &View<'a>, factor: Factor, row: usize) -> Option<&'a [i
 
 // A whole row is written to out, zeros where cells do not count.
 pub fn copied(view: &View<'_>, factor: Factor, row: usize, out: &mut [i16])
-    requires { length out.old ≡ view.now.source.size.columns }
-    ensures { out.new ≡ tabulate view.now.source.size.columns (plane_at (on_factor (checked_source view.now.source) factor) row) }
+    requires { length out.old ≡ view.now.source.frame.columns }
+    ensures { out.new ≡ tabulate view.now.source.frame.columns (plane_at (on_factor (checked_source view.now.source) factor) row) }
 {
-    let width = view.source.size.columns;
+    let width = view.source.frame.columns;
     let first = view.columns.first;
     let end = view.columns.end;
     fill(&mut out[0..first], 0);
@@ -91,8 +86,8 @@ pub fn copied(view: &View<'_>, factor: Factor, row: usize, out: &mut [i16])
 
 // The same of a plane of ones or levels.
 pub fn copied_row(source: &CheckedSource<'_>, row: usize, out: &mut [i16])
-    requires { (plane_number source.now.plane ≤ 2) × (length out.old ≡ source.now.size.columns) }
-    ensures { out.new ≡ tabulate source.now.size.columns (plane_at (checked_source source.now) row) }
+    requires { (plane_number source.now.plane ≤ 2) × (length out.old ≡ source.now.frame.columns) }
+    ensures { out.new ≡ tabulate source.now.frame.columns (plane_at (checked_source source.now) row) }
 {
     let view = view_of(source);
     match factors_of(source.plane) {

@@ -33,11 +33,11 @@ fn values(view: &View<'_>, row: usize, start: usize, end: usize, out: &mut [i64]
 
 // Row `row` of the plane.
 pub fn plane_row(source: &CheckedSource<'_>, row: usize, out: &mut [i64])
-    requires { length out.old ≡ source.now.size.columns }
-    ensures { out.new ≡ tabulate source.now.size.columns (plane_at (checked_source source.now) row) }
+    requires { length out.old ≡ source.now.frame.columns }
+    ensures { out.new ≡ tabulate source.now.frame.columns (plane_at (checked_source source.now) row) }
 {
     let view = view_of(source);
-    let width = source.size.columns;
+    let width = source.frame.columns;
     let first = view.columns.first;
     let end = view.columns.end;
     fill(&mut out[0..first], 0);

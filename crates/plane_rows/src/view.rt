@@ -11,7 +11,7 @@ pub struct View<'a> {
     pub source: CheckedSource<'a>,
     pub rows: Overlap,
     pub columns: Overlap,
-    pub ghost counting: { Counting source.size source.shift rows columns },
+    pub ghost counting: { Counting source.frame source.shift rows columns },
 }
 
 // The view of checked inputs.
@@ -20,8 +20,8 @@ pub fn view_of<'a>(source: &CheckedSource<'a>) -> View<'a>
 {
     View {
         source: *source,
-        rows: overlap_of(source.size.rows, source.shift.down),
-        columns: overlap_of(source.size.columns, source.shift.right),
+        rows: overlap_of(source.frame.rows, source.shift.down),
+        columns: overlap_of(source.frame.columns, source.shift.right),
     }
 }
 

@@ -59,8 +59,8 @@ fn columns_that_count(view: &View<'_>, enter: usize, leave: usize, sums: &mut [i
 
 // Row `enter` of the plane is added to the sums, and row `leave` taken away; a row past the picture's last has no cell.
 pub fn enter_and_leave(source: &CheckedSource<'_>, enter: usize, leave: usize, sums: &mut [i64])
-    requires { length sums.old ≡ source.now.size.columns }
-    ensures { sums.new ≡ tabulate source.now.size.columns (λ j. wrap (get_or sums.old j (pos 0) +ℤ (plane_at (checked_source source.now) enter j -ℤ plane_at (checked_source source.now) leave j))) }
+    requires { length sums.old ≡ source.now.frame.columns }
+    ensures { sums.new ≡ tabulate source.now.frame.columns (λ j. wrap (get_or sums.old j (pos 0) +ℤ (plane_at (checked_source source.now) enter j -ℤ plane_at (checked_source source.now) leave j))) }
 {
     let view = view_of(source);
     numbers_fit(sums);

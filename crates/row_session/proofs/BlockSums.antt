@@ -13,7 +13,7 @@ use Rattle.numbers.specs.Grid.{rows_from}
 use Rattle.numbers.proofs.Grids.{get_d_rows}
 use Rattle.numbers.proofs.Lines.{line-end}
 use Rattle.numbers.proofs.Writes.{at, part-within}
-use Rattle.spec_picture.specs.declared.Size.{Size}
+use Rattle.spec_picture.specs.declared.Frame.{Frame}
 use Rattle.spec_picture.specs.Window.{Shape, shape_of}
 use Rattle.spec_picture.specs.Picture.{Inputs, plane_at}
 use Rattle.spec_picture.specs.Direct.{window_sum, direct_sum}
@@ -25,8 +25,8 @@ use Rattle.spec_rows.proofs.Steps.{Ready, strip-done}
 use Rattle.row_session.specs.Blocks.{ready, rows_in, RowSums, Block}
 
 module _ (x : Inputs) (c : Checked x) where
-  abbrev z : Size
-  z = x.source.size
+  abbrev z : Frame
+  z = x.source.frame
 
   abbrev P : ℕ → ℕ → ℤ
   P = plane_at x.source
@@ -35,7 +35,7 @@ module _ (x : Inputs) (c : Checked x) where
   s = shape_of x.window
 
   abbrev lim : InLimits z
-  lim = in-limits z c.size
+  lim = in-limits z c.frame
 
   abbrev small : (m n : ℕ) → nat_abs (P m n) ≤ 2 ^ 30
   small = plane-bound x.source c.levels_f c.levels_g

@@ -6,9 +6,9 @@ use Rattle.spec_picture.specs.Picture.{Inputs}
 
 -- rows of the picture from a position on, a work area, and room for those rows
 pub record ManyAsked (x : Inputs) (position n : ℕ) (work out : List ℤ) : Type 0 where
-  pub rows : position + n ≤ x.source.size.rows
-  pub room_work : length work ≡ x.source.size.columns
-  pub room : length out ≡ n * x.source.size.columns
+  pub rows : position + n ≤ x.source.frame.rows
+  pub room_work : length work ≡ x.source.frame.columns
+  pub room : length out ≡ n * x.source.frame.columns
 
 -- the same, and one row at least
 pub record SomeAsked (x : Inputs) (position n : ℕ) (work out : List ℤ) : Type 0 where

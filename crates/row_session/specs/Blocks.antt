@@ -10,15 +10,15 @@ use Rattle.spec_rows.specs.Rows.{work_value}
 -- the work area before row i, if that row is there: anything before row 0, and later, at its front, what the row above left
 abbrev pub ready : Inputs → ℕ → List ℤ → Type 0
 ready x zero work = Unit
-ready x (suc i) work = suc i < x.source.size.rows → take x.source.size.columns work ≡ tabulate x.source.size.columns (work_value x.source.size (plane_at x.source) (shape_of x.window) i)
+ready x (suc i) work = suc i < x.source.frame.rows → take x.source.frame.columns work ≡ tabulate x.source.frame.columns (work_value x.source.frame (plane_at x.source) (shape_of x.window) i)
 
 -- how many rows the block has that begins at row b
 abbrev pub rows_in : Inputs → ℕ → ℕ
-rows_in x b = min (suc (b + 15)) x.source.size.rows - b
+rows_in x b = min (suc (b + 15)) x.source.frame.rows - b
 
 -- the sums of m rows from row i on, one behind the other from the front of an area on
 abbrev pub RowSums : Inputs → (i m : ℕ) → List ℤ → Type 0
-RowSums x i m block = (r j : ℕ) → r < m → j < x.source.size.columns → get_or block (r * x.source.size.columns + j) (pos 0) ≡ direct_sum x (i + r) j
+RowSums x i m block = (r j : ℕ) → r < m → j < x.source.frame.columns → get_or block (r * x.source.frame.columns + j) (pos 0) ≡ direct_sum x (i + r) j
 
 -- the sums of that block, and the work area ready for the block behind it
 pub record Block (x : Inputs) (b : ℕ) (work block : List ℤ) : Type 0 where
@@ -27,5 +27,5 @@ pub record Block (x : Inputs) (b : ℕ) (work block : List ℤ) : Type 0 where
 
 -- the row of the picture that the block begins at, and what the row above it left
 pub record BlockAsked (x : Inputs) (i : ℕ) (work : List ℤ) : Type 0 where
-  pub row : i < x.source.size.rows
+  pub row : i < x.source.frame.rows
   pub before : ready x i work

@@ -21,9 +21,9 @@ fn one_by_one(
     out: &mut [i64],
 )
     requires { ManyAsked (checked_inputs inputs.now) position n work.old out.old }
-    ensures { Advanced (strip inputs.now.source.size (plane_at (checked_source inputs.now.source)) (shape_of (given inputs.now.window)) position n work.old) work.new out.new }
+    ensures { Advanced (strip inputs.now.source.frame (plane_at (checked_source inputs.now.source)) (shape_of (given inputs.now.window)) position n work.old) work.new out.new }
 {
-    let columns = inputs.source.size.columns;
+    let columns = inputs.source.frame.columns;
     for k in 0..n {
         let start = k * columns;
         let end = start + columns;
@@ -40,10 +40,10 @@ fn by_edges(
     out: &mut [i64],
 )
     requires { SomeAsked (checked_inputs slanted.now.inputs) position n work.old out.old }
-    ensures { Advanced (strip slanted.now.inputs.source.size (plane_at (checked_source slanted.now.inputs.source)) (shape_of (given slanted.now.inputs.window)) position n work.old) work.new out.new }
+    ensures { Advanced (strip slanted.now.inputs.source.frame (plane_at (checked_source slanted.now.inputs.source)) (shape_of (given slanted.now.inputs.window)) position n work.old) work.new out.new }
 {
     if position == 0 {
-        let columns = slanted.inputs.source.size.columns;
+        let columns = slanted.inputs.source.frame.columns;
         areas::next(0, &slanted.inputs, work, &mut out[..columns]);
         edges::many(slanted, 0, n - 1, work, &mut out[columns..]);
         return;
@@ -60,7 +60,7 @@ pub fn many(
     out: &mut [i64],
 )
     requires { ManyAsked (checked_inputs inputs.now) position n work.old out.old }
-    ensures { Advanced (strip inputs.now.source.size (plane_at (checked_source inputs.now.source)) (shape_of (given inputs.now.window)) position n work.old) work.new out.new }
+    ensures { Advanced (strip inputs.now.source.frame (plane_at (checked_source inputs.now.source)) (shape_of (given inputs.now.window)) position n work.old) work.new out.new }
 {
     if let Some(slanted) = kept_slopes::slanted(inputs) {
         if crossings::from_top(position, inputs.window, inputs.source.plane, n) {

@@ -13,8 +13,8 @@ pub fn next(i: usize, inputs: &CheckedInputs<'_>, work: &mut [i64; 1024], block:
     requires { BlockAsked (checked_inputs inputs.now) i work.old }
     ensures { Block (checked_inputs inputs.now) i work.new block.new }
 {
-    let columns = inputs.source.size.columns;
-    let n = clip::high(i, 15, inputs.source.size.rows) - i;
+    let columns = inputs.source.frame.columns;
+    let n = clip::high(i, 15, inputs.source.frame.rows) - i;
     advance::many(
         i,
         inputs,

@@ -14,8 +14,8 @@ use Rattle.numbers.proofs.Grids.{tabulate-cong, get_d_tabulate}
 use Rattle.numbers.proofs.Sums.{sum-suc, sum-cong, sum_near}
 use Rattle.numbers.proofs.Wraps.{wrap-add, wrap-small}
 use Rattle.numbers.proofs.Writes.{at}
-use Rattle.spec_picture.specs.declared.Size.{Size}
-use Rattle.spec_picture.specs.Size.{column_gap}
+use Rattle.spec_picture.specs.declared.Frame.{Frame}
+use Rattle.spec_picture.specs.Frame.{column_gap}
 use Rattle.spec_picture.specs.Window.{Shape, height, reach}
 use Rattle.spec_picture.specs.Direct.{window_sum}
 use Rattle.spec_picture.proofs.Refusals.{InLimits}
@@ -59,11 +59,11 @@ done : (Q : ℕ → ℕ → ℤ) (columns m : ℕ) (W : ℕ → ℤ) (work : Lis
 done Q columns m W work e fits w = w ∙ tabulate-cong columns (λ j. wrap (sum_to m (λ k. Q k j))) W (λ j j<. ap wrap (sym (e j)) ∙ wrap-small (W j) (fits j))
 
 -- row m of the plane, of which each cell is summed as far to both sides as the window on row 0 reaches there
-abbrev pub reached : Size → (ℕ → ℕ → ℤ) → Shape → (m j : ℕ) → ℤ
+abbrev pub reached : Frame → (ℕ → ℕ → ℤ) → Shape → (m j : ℕ) → ℤ
 reached z P s m j = sum_to z.columns (λ n. pick (leb (column_gap z j n) (reach s m)) (P m n))
 
 -- the window sum of row 0, row by row
-pub window-0 : (z : Size) (P : ℕ → ℕ → ℤ) (s : Shape) (j : ℕ) → window_sum z s P 0 j ≡ sum_to (min (suc (0 + height s)) z.rows) (λ m. reached z P s m j)
+pub window-0 : (z : Frame) (P : ℕ → ℕ → ℤ) (s : Shape) (j : ℕ) → window_sum z s P 0 j ≡ sum_to (min (suc (0 + height s)) z.rows) (λ m. reached z P s m j)
 window-0 z P s j =
     by_rows z s P 0 j
     ∙ sum-cong z.rows (λ m. pick (leb (dist 0 m) (height s)) (sum_to z.columns (λ n. pick (leb (dist j n) (reach s (dist 0 m))) (P m n)))) (λ m. pick (leb (dist 0 m) (height s)) (reached z P s m j))
@@ -72,7 +72,7 @@ window-0 z P s j =
     ap (λ (p : ℕ). pick (leb (dist 0 m) (height s)) (sum_to z.columns (λ n. pick (leb (dist j n) (reach s p)) (P m n)))) e)
     ∙ from_0 z.rows (height s) (λ m. reached z P s m j)
 
-module _ (z : Size) (P : ℕ → ℕ → ℤ) (lim : InLimits z) (small : (m n : ℕ) → nat_abs (P m n) ≤ 2 ^ 30) where
+module _ (z : Frame) (P : ℕ → ℕ → ℤ) (lim : InLimits z) (small : (m n : ℕ) → nat_abs (P m n) ≤ 2 ^ 30) where
   pub columns-all : (a m : ℕ) (work : List ℤ) → m ≡ min (suc (0 + a)) z.rows → work ≡ columns_to P z.columns m → work ≡ tabulate z.columns (column_sum z P a 0)
   unfolding column_sum
   columns-all a m work e =

@@ -18,7 +18,7 @@ use Rattle.numbers.proofs.Grids.{tabulate-cong, get_d_tabulate, length-tabulate}
 use Rattle.numbers.proofs.Sums.{sum-suc, sum-cong, sum-split, pick_yes, pick_no}
 use Rattle.numbers.proofs.Wraps.{wrap-add, wrap-add-right, wrap-fits, sfits-wrap}
 use Rattle.numbers.proofs.Writes.{at, is-tabulate, tabulate-at, part-before, part-within, part-after, part_length, slice_at}
-use Rattle.spec_picture.specs.declared.Size.{Size}
+use Rattle.spec_picture.specs.declared.Frame.{Frame}
 use Rattle.spec_picture.specs.Window.{Shape, Slanted, slanted, width, depth}
 use Rattle.spec_rows.specs.Rows.{enter_leave, work_change, work_after}
 use Rattle.spec_rows.specs.Distances.{at_distance}
@@ -104,7 +104,7 @@ module _ (columns c m₁ m₂ : ℕ) (work change behind before : List ℤ) (F :
         (part_length 0 (columns - c) once before (omega arith) (omega (arith, length-once)) span ∙ length-once) both_at
 
 -- ---- the loop over the distances from 1 on
-module _ (z : Size) (P : ℕ → ℕ → ℤ) (s : Shape) (i : ℕ) (work : List ℤ) where
+module _ (z : Frame) (P : ℕ → ℕ → ℤ) (s : Shape) (i : ℕ) (work : List ℤ) where
   abbrev added : ℕ → List ℤ
   added n = edges_to z P s i work n
 
@@ -173,7 +173,7 @@ module _ (z : Size) (P : ℕ → ℕ → ℤ) (s : Shape) (i : ℕ) (work : List
       shifted j m = sum-cong m (λ k. edge_change z P s i (suc k) j) (λ k. edge_change z P s i (1 + k) j) (λ k k<. ap (λ (q : ℕ). edge_change z P s i q j) (sym (one-add k)))
 
 -- all distances are the definition's change
-pub edges_are : (z : Size) (P : ℕ → ℕ → ℤ) (o : Slanted) (i : ℕ) (work out : List ℤ) →
+pub edges_are : (z : Frame) (P : ℕ → ℕ → ℤ) (o : Slanted) (i : ℕ) (work out : List ℤ) →
     out ≡ edges_to z P (slanted o) i work (min (suc (width (slanted o))) z.columns) → out ≡ work_after z P (slanted o) (suc i) work
 unfolding work_after work_change
 edges_are z P o i work out e =

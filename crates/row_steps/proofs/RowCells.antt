@@ -19,21 +19,21 @@ module _ (x : Source) (i d : ℕ) where
   abbrev P : ℕ → ℕ → ℤ
   P = plane_at x
 
-  below : (j : ℕ) → P (i + 1 + d) j ≡ cell_below x.size P (suc i) d j
+  below : (j : ℕ) → P (i + 1 + d) j ≡ cell_below x.frame P (suc i) d j
   below j =
       let e : i + 1 + d ≡ suc i + d = omega arith in
-      ap (λ (m : ℕ). P m j) e ∙ sym (cell_below_lem x.size P (plane-past x) (suc i) d j)
+      ap (λ (m : ℕ). P m j) e ∙ sym (cell_below_lem x.frame P (plane-past x) (suc i) d j)
 
   -- the row d rows above row i leaves; there is none where i is below d
-  above : (row : Option ℕ) → SomeIff row (d ≤ i) (i - d) → (leave : ℕ) → leave ≡ unwrap_or row x.size.rows → (j : ℕ) → P leave j ≡ cell_above x.size P i d j
-  above None h leave e j = ap (λ (m : ℕ). P m j) e ∙ plane-past x x.size.rows j (omega arith) ∙ sym (none_above x.size P i d j (omega (arith, h)))
-  above (Some m) h leave e j = ap (λ (m : ℕ). P m j) (e ∙ h.1) ∙ sym (cell-above x.size P (plane-past x) i d j h.0)
+  above : (row : Option ℕ) → SomeIff row (d ≤ i) (i - d) → (leave : ℕ) → leave ≡ unwrap_or row x.frame.rows → (j : ℕ) → P leave j ≡ cell_above x.frame P i d j
+  above None h leave e j = ap (λ (m : ℕ). P m j) e ∙ plane-past x x.frame.rows j (omega arith) ∙ sym (none_above x.frame P i d j (omega (arith, h)))
+  above (Some m) h leave e j = ap (λ (m : ℕ). P m j) (e ∙ h.1) ∙ sym (cell-above x.frame P (plane-past x) i d j h.0)
 
-  pub row-gained : (row : Option ℕ) → SomeIff row (d ≤ i) (i - d) → (leave : ℕ) → leave ≡ unwrap_or row x.size.rows → (sums out : List ℤ) →
-      out ≡ tabulate x.size.columns (λ j. wrap (at sums j +ℤ (P (i + 1 + d) j -ℤ P leave j))) → out ≡ tabulate x.size.columns (λ j. wrap (at sums j +ℤ enter_leave x.size P i d j))
+  pub row-gained : (row : Option ℕ) → SomeIff row (d ≤ i) (i - d) → (leave : ℕ) → leave ≡ unwrap_or row x.frame.rows → (sums out : List ℤ) →
+      out ≡ tabulate x.frame.columns (λ j. wrap (at sums j +ℤ (P (i + 1 + d) j -ℤ P leave j))) → out ≡ tabulate x.frame.columns (λ j. wrap (at sums j +ℤ enter_leave x.frame P i d j))
   unfolding enter_leave
   row-gained row h leave e sums out o =
-      o ∙ tabulate-cong x.size.columns _ _ (λ j j<. ap (λ (y : ℤ). wrap (at sums j +ℤ y)) (ap₂ (λ (y z : ℤ). y -ℤ z) (below j) (above row h leave e j)))
+      o ∙ tabulate-cong x.frame.columns _ _ (λ j j<. ap (λ (y : ℤ). wrap (at sums j +ℤ y)) (ap₂ (λ (y z : ℤ). y -ℤ z) (below j) (above row h leave e j)))
 
 -- added to zeros it stands alone
 pub gain-alone : (columns n : ℕ) (F : ℕ → ℤ) (zeros out : List ℤ) → n ≡ columns → zeros ≡ tabulate n (λ k. pos 0) → out ≡ tabulate columns (λ j. wrap (at zeros j +ℤ F j)) → out ≡ tabulate columns (λ j. wrap (F j))

@@ -13,7 +13,7 @@ use Rattle.numbers.specs.Grid.{tabulate}
 use Rattle.numbers.specs.Sum.{sum_to, pick, dist}
 use Rattle.numbers.specs.Wrap.{wrap}
 use Rattle.numbers.proofs.Writes.{at}
-use Rattle.spec_picture.specs.declared.Size.{Size}
+use Rattle.spec_picture.specs.declared.Frame.{Frame}
 use Rattle.spec_picture.specs.Window.{Shape, rectangle, slanted, shape_of, is_rectangle, height, width}
 use Rattle.spec_picture.specs.Picture.{Inputs, plane_at}
 use Rattle.spec_picture.specs.Direct.{direct_sum}
@@ -34,7 +34,7 @@ row-above (Some j) position i s e =
     let same : j ≡ i = cc in
     omega (arith, s.0, s.1, same)
 
-module _ (z : Size) (P : ℕ → ℕ → ℤ) (work out : List ℤ) where
+module _ (z : Frame) (P : ℕ → ℕ → ℤ) (work out : List ℤ) where
   pub area-rectangle-first : (s : Shape) (position a : ℕ) → is_rectangle s ≡ true → a ≡ height s → position ≡ 0 →
       out ≡ tabulate z.columns (column_sum z P a 0) → out ≡ work_after z P s position work
   unfolding height work_after work_value
@@ -53,21 +53,21 @@ module _ (z : Size) (P : ℕ → ℕ → ℤ) (work out : List ℤ) where
   area-slanted-next (slanted s) position i e p o = rw p (edges_are z P s i work out o)
 
 pub area-slanted-first : (x : Inputs) (work out : List ℤ) (position : ℕ) → is_rectangle (shape_of x.window) ≡ false → position ≡ 0 →
-    out ≡ tabulate x.source.size.columns (direct_sum x 0) → out ≡ work_after x.source.size (plane_at x.source) (shape_of x.window) position work
+    out ≡ tabulate x.source.frame.columns (direct_sum x 0) → out ≡ work_after x.source.frame (plane_at x.source) (shape_of x.window) position work
 unfolding direct_sum
-area-slanted-first x work out position e p o = o ∙ go (shape_of x.window) e ∙ ap (λ (k : ℕ). work_after x.source.size (plane_at x.source) (shape_of x.window) k work) (sym p)
+area-slanted-first x work out position e p o = o ∙ go (shape_of x.window) e ∙ ap (λ (k : ℕ). work_after x.source.frame (plane_at x.source) (shape_of x.window) k work) (sym p)
   where
-    go : (s : Shape) → is_rectangle s ≡ false → tabulate x.source.size.columns (Rattle.spec_picture.specs.Direct.window_sum x.source.size s (plane_at x.source) 0) ≡ work_after x.source.size (plane_at x.source) s 0 work
+    go : (s : Shape) → is_rectangle s ≡ false → tabulate x.source.frame.columns (Rattle.spec_picture.specs.Direct.window_sum x.source.frame s (plane_at x.source) 0) ≡ work_after x.source.frame (plane_at x.source) s 0 work
     go (rectangle a b) e = absurd (true≢false e)
     go (slanted s) e = unfold work_after work_value in refl
 
 -- ---- the output row
 -- a rectangle's output row is the sums of the work area's neighbours
-output-near : (z : Size) (a b : ℕ) (work : List ℤ) → length work ≡ z.columns → tabulate (length work) (neighbour_sum work b) ≡ output_row z (rectangle a b) work
+output-near : (z : Frame) (a b : ℕ) (work : List ℤ) → length work ≡ z.columns → tabulate (length work) (neighbour_sum work b) ≡ output_row z (rectangle a b) work
 unfolding output_row
 output-near z a b work e = ap (λ (n : ℕ). tabulate n (λ j. wrap (sum_to n (λ k. pick (leb (dist j k) b) (at work k))))) e
 
-pub output-rectangle : (z : Size) (s : Shape) (b : ℕ) (work out : List ℤ) → is_rectangle s ≡ true → b ≡ width s → length work ≡ z.columns →
+pub output-rectangle : (z : Frame) (s : Shape) (b : ℕ) (work out : List ℤ) → is_rectangle s ≡ true → b ≡ width s → length work ≡ z.columns →
     out ≡ tabulate (length work) (neighbour_sum work b) → out ≡ output_row z s work
 unfolding width
 output-rectangle z (rectangle a c) b work out e h l o = o ∙ ap (λ (k : ℕ). tabulate (length work) (neighbour_sum work k)) h ∙ output-near z a c work l

@@ -10,5 +10,5 @@ use Rattle.row_steps.specs.Asked.{StepAsked}
 pub record EdgeAsked (x : Inputs) (i c : ℕ) (work line : List ℤ) : Type 0 where
   pub step : StepAsked x i work line
   pub some : 1 ≤ c
-  pub few : c < x.source.size.columns
+  pub few : c < x.source.frame.columns
   pub wrapped : (j : ℕ) → wrap (get_or work j (pos 0)) ≡ get_or work j (pos 0)

@@ -11,13 +11,13 @@ ghost use Rattle.row_steps.specs.Asked.{StepAsked};
 use crate::first_rows::rectangle;
 use crate::{first_rows, slanted, step};
 use row_loops::across;
-use spec_picture::{CheckedInputs, CheckedWindow, Size};
+use spec_picture::{CheckedInputs, CheckedWindow, Frame};
 use windows::shape;
 
 // The work area moves on to the row at a position: at position 0 it is not read. The room for a row serves on the way.
 fn area(position: usize, inputs: &CheckedInputs<'_>, work: &mut [i64], row: &mut [i64])
     requires { StepAsked (checked_inputs inputs.now) position work.old row.old }
-    ensures { work.new ≡ work_after inputs.now.source.size (plane_at (checked_source inputs.now.source)) (shape_of (given inputs.now.window)) position work.old }
+    ensures { work.new ≡ work_after inputs.now.source.frame (plane_at (checked_source inputs.now.source)) (shape_of (given inputs.now.window)) position work.old }
 {
     let above = position.checked_sub(1);
     match (shape::is_rectangle(inputs.window), above) {
@@ -31,9 +31,9 @@ fn area(position: usize, inputs: &CheckedInputs<'_>, work: &mut [i64], row: &mut
 }
 
 // The output row: of a rectangle the sums across the work area, of the others the work area.
-fn output(size: Size, window: CheckedWindow, work: &[i64], out: &mut [i64])
-    requires { OutputAsked size work.now out.old }
-    ensures { out.new ≡ output_row size (shape_of (given window)) work.now }
+fn output(frame: Frame, window: CheckedWindow, work: &[i64], out: &mut [i64])
+    requires { OutputAsked frame work.now out.old }
+    ensures { out.new ≡ output_row frame (shape_of (given window)) work.now }
 {
     if shape::is_rectangle(window) {
         across::across(work, shape::width(window), out);
@@ -45,9 +45,9 @@ fn output(size: Size, window: CheckedWindow, work: &[i64], out: &mut [i64])
 // The work area moves on to the row at a position, and out is its output row.
 pub fn next(position: usize, inputs: &CheckedInputs<'_>, work: &mut [i64], out: &mut [i64])
     requires { StepAsked (checked_inputs inputs.now) position work.old out.old }
-    ensures work { work.new ≡ work_after inputs.now.source.size (plane_at (checked_source inputs.now.source)) (shape_of (given inputs.now.window)) position work.old }
-    ensures out { out.new ≡ output_row inputs.now.source.size (shape_of (given inputs.now.window)) (work_after inputs.now.source.size (plane_at (checked_source inputs.now.source)) (shape_of (given inputs.now.window)) position work.old) }
+    ensures work { work.new ≡ work_after inputs.now.source.frame (plane_at (checked_source inputs.now.source)) (shape_of (given inputs.now.window)) position work.old }
+    ensures out { out.new ≡ output_row inputs.now.source.frame (shape_of (given inputs.now.window)) (work_after inputs.now.source.frame (plane_at (checked_source inputs.now.source)) (shape_of (given inputs.now.window)) position work.old) }
 {
     area(position, inputs, work, out);
-    output(inputs.source.size, inputs.window, work, out);
+    output(inputs.source.frame, inputs.window, work, out);
 }

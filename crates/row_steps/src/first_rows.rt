@@ -4,7 +4,7 @@ ghost use Rattle.std.specs.Prelude.{◌≡◌, leb, pos, ◌+ℤ◌, get_or};
 ghost use Rattle.numbers.specs.Grid.{tabulate};
 ghost use Rattle.numbers.specs.Sum.{sum_to, pick};
 ghost use Rattle.numbers.specs.Wrap.{wrap};
-ghost use Rattle.spec_picture.specs.Size.{column_gap};
+ghost use Rattle.spec_picture.specs.Frame.{column_gap};
 ghost use Rattle.spec_picture.specs.Window.{shape_of, reach};
 ghost use Rattle.spec_picture.specs.Picture.{plane_at};
 ghost use Rattle.spec_picture.specs.Checked.{given, checked_source, checked_inputs};
@@ -28,7 +28,7 @@ fn reaching(
     cells: &mut [i64],
 )
     requires { ReachAsked (checked_inputs inputs.now) m work.old row.old cells.old }
-    ensures { work.new ≡ tabulate inputs.now.source.size.columns (λ j. wrap (get_or work.old j (pos 0) +ℤ sum_to inputs.now.source.size.columns (λ n. pick (leb (column_gap inputs.now.source.size j n) (reach (shape_of (given inputs.now.window)) m)) (plane_at (checked_source inputs.now.source) m n)))) }
+    ensures { work.new ≡ tabulate inputs.now.source.frame.columns (λ j. wrap (get_or work.old j (pos 0) +ℤ sum_to inputs.now.source.frame.columns (λ n. pick (leb (column_gap inputs.now.source.frame j n) (reach (shape_of (given inputs.now.window)) m)) (plane_at (checked_source inputs.now.source) m n)))) }
 {
     let k = reaches::reach(inputs.window, m);
     planes::plane_row(&inputs.source, m, cells);
@@ -39,10 +39,10 @@ fn reaching(
 // Row 0: the window sums, one row of the window after the other.
 pub fn first(inputs: &CheckedInputs<'_>, work: &mut [i64], row: &mut [i64])
     requires { FirstAsked (checked_inputs inputs.now) work.old row.old }
-    ensures { work.new ≡ tabulate inputs.now.source.size.columns (direct_sum (checked_inputs inputs.now) 0) }
+    ensures { work.new ≡ tabulate inputs.now.source.frame.columns (direct_sum (checked_inputs inputs.now) 0) }
 {
-    let columns = inputs.source.size.columns;
-    let end = clip::high(0, shape::height(inputs.window), inputs.source.size.rows);
+    let columns = inputs.source.frame.columns;
+    let end = clip::high(0, shape::height(inputs.window), inputs.source.frame.rows);
     // Room for the widest row, since there is no heap.
     let mut cells = [0i64; 1024];
     plane_values::fill(work, 0);

@@ -18,9 +18,9 @@ use windows::{clip, reaches, shape};
 // to the columns before, and those on its left to the columns behind.
 fn edge(inputs: &CheckedInputs<'_>, i: usize, c: usize, work: &mut [i64], row: &mut [i64])
     requires { EdgeAsked (checked_inputs inputs.now) i c work.old row.old }
-    ensures { work.new ≡ tabulate inputs.now.source.size.columns (λ j. wrap (get_or work.old j (pos 0) +ℤ edge_change inputs.now.source.size (plane_at (checked_source inputs.now.source)) (shape_of (given inputs.now.window)) i c j)) }
+    ensures { work.new ≡ tabulate inputs.now.source.frame.columns (λ j. wrap (get_or work.old j (pos 0) +ℤ edge_change inputs.now.source.frame (plane_at (checked_source inputs.now.source)) (shape_of (given inputs.now.window)) i c j)) }
 {
-    let columns = inputs.source.size.columns;
+    let columns = inputs.source.frame.columns;
     let n = columns - c;
     step::gain(&inputs.source, i, reaches::depth(inputs.window, c), row);
     step::add(&mut work[c..columns], &row[..n]);
@@ -30,9 +30,9 @@ fn edge(inputs: &CheckedInputs<'_>, i: usize, c: usize, work: &mut [i64], row: &
 // From row i to i+1.
 pub fn next(inputs: &CheckedInputs<'_>, i: usize, work: &mut [i64], row: &mut [i64])
     requires { StepAsked (checked_inputs inputs.now) i work.old row.old }
-    ensures { work.new ≡ edges_to inputs.now.source.size (plane_at (checked_source inputs.now.source)) (shape_of (given inputs.now.window)) i work.old (min (suc (width (shape_of (given inputs.now.window)))) inputs.now.source.size.columns) }
+    ensures { work.new ≡ edges_to inputs.now.source.frame (plane_at (checked_source inputs.now.source)) (shape_of (given inputs.now.window)) i work.old (min (suc (width (shape_of (given inputs.now.window)))) inputs.now.source.frame.columns) }
 {
-    let columns = inputs.source.size.columns;
+    let columns = inputs.source.frame.columns;
     let end = clip::high(0, shape::width(inputs.window), columns);
     step::add_gain(&inputs.source, i, reaches::depth(inputs.window, 0), work);
     for c in 1..end {

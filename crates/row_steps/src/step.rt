@@ -15,17 +15,17 @@ use spec_picture::CheckedSource;
 // From row i to i+1, at half height d: the row d rows below enters the sums, and the row d rows above, if there is one, leaves them. Past the picture's last row no cell
 // counts, so that row leaves in the place of one that is not there.
 pub fn add_gain(source: &CheckedSource<'_>, i: usize, d: usize, sums: &mut [i64])
-    requires { RowAsked source.now.size i d sums.old }
-    ensures { sums.new ≡ tabulate source.now.size.columns (λ j. wrap (get_or sums.old j (pos 0) +ℤ enter_leave source.now.size (plane_at (checked_source source.now)) i d j)) }
+    requires { RowAsked source.now.frame i d sums.old }
+    ensures { sums.new ≡ tabulate source.now.frame.columns (λ j. wrap (get_or sums.old j (pos 0) +ℤ enter_leave source.now.frame (plane_at (checked_source source.now)) i d j)) }
 {
-    let leave = i.checked_sub(d).unwrap_or(source.size.rows);
+    let leave = i.checked_sub(d).unwrap_or(source.frame.rows);
     enter_and_leave(source, i + 1 + d, leave, sums);
 }
 
 // The same alone: in `row` the cells that enter less those that leave.
 pub fn gain(source: &CheckedSource<'_>, i: usize, d: usize, row: &mut [i64])
-    requires { RowAsked source.now.size i d row.old }
-    ensures { row.new ≡ tabulate source.now.size.columns (λ j. wrap (enter_leave source.now.size (plane_at (checked_source source.now)) i d j)) }
+    requires { RowAsked source.now.frame i d row.old }
+    ensures { row.new ≡ tabulate source.now.frame.columns (λ j. wrap (enter_leave source.now.frame (plane_at (checked_source source.now)) i d j)) }
 {
     plane_values::fill(row, 0);
     add_gain(source, i, d, row);

@@ -10,8 +10,8 @@ use lib.IntN.{ℤ, pos, ◌+ℤ◌, ◌-ℤ◌}
 use Rattle.numbers.specs.Sum.{sum_to, pick, dist}
 use Rattle.numbers.proofs.Linear.{any, sums, ring}
 use Rattle.numbers.proofs.Sums.{sum-cong, sum-add, pick_yes, pick_no}
-use Rattle.spec_picture.specs.declared.Size.{Size}
-use Rattle.spec_picture.specs.Size.{column_gap}
+use Rattle.spec_picture.specs.declared.Frame.{Frame}
+use Rattle.spec_picture.specs.Frame.{column_gap}
 use Rattle.spec_picture.specs.Window.{Shape, rectangle, slanted, is_rectangle, height, width, depth}
 use Rattle.spec_picture.proofs.Windows.{height-width, depth-slanted}
 use Rattle.spec_rows.specs.Rows.{cell_below, cell_above, enter_leave, work_change}
@@ -22,7 +22,7 @@ use Rattle.slope_loops.specs.declared.padding.TheConstants.{ABOVE, MARGIN}
 use Rattle.slope_loops.specs.Slopes.{padded, edge_slopes, rising, falling, edges_change}
 use Rattle.slope_loops.proofs.Moves.{padded-cell, padded-above, padded-left, padded-right}
 
-module _ (z : Size) (P : ℕ → ℕ → ℤ) (past : (m n : ℕ) → z.rows ≤ m → P m n ≡ pos 0) (beside : (m n : ℕ) → z.columns ≤ n → P m n ≡ pos 0) where
+module _ (z : Frame) (P : ℕ → ℕ → ℤ) (past : (m n : ℕ) → z.rows ≤ m → P m n ≡ pos 0) (beside : (m n : ℕ) → z.columns ≤ n → P m n ≡ pos 0) where
   abbrev Q : ℕ → ℕ → ℤ
   Q = padded P
 

@@ -24,10 +24,10 @@ use Rattle.slope_loops.proofs.Moves.{pick-zero}
 use Rattle.slope_loops.specs.Loops.{Blank, Holds}
 
 -- ---- a row that was put where it belongs among zeros
-module _ (x : CheckedSource) (y : ℕ) (buf part : List ℤ) (given : Blank (map (λ (v : ℤ). v) buf) x.size.columns)
-    (lent : length part ≡ length (take (MARGIN + x.size.columns - MARGIN) (drop MARGIN buf))) where
+module _ (x : CheckedSource) (y : ℕ) (buf part : List ℤ) (given : Blank (map (λ (v : ℤ). v) buf) x.frame.columns)
+    (lent : length part ≡ length (take (MARGIN + x.frame.columns - MARGIN) (drop MARGIN buf))) where
   abbrev width : ℕ
-  width = x.size.columns
+  width = x.frame.columns
 
   abbrev P : ℕ → ℕ → ℤ
   P = plane_at (checked_source x)

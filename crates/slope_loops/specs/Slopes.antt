@@ -3,8 +3,8 @@
 -- Assumes nothing.
 use Rattle.std.specs.Prelude.{ℕ, ◌+◌, ◌-◌, leb, ℤ, ◌+ℤ◌, ◌-ℤ◌}
 use Rattle.numbers.specs.Sum.{sum_to, pick}
-use Rattle.spec_picture.specs.declared.Size.{Size}
-use Rattle.spec_picture.specs.Size.{column_gap}
+use Rattle.spec_picture.specs.declared.Frame.{Frame}
+use Rattle.spec_picture.specs.Frame.{column_gap}
 use Rattle.spec_rows.specs.Rows.{enter_leave}
 use Rattle.slope_loops.specs.declared.padding.TheConstants.{ABOVE, MARGIN}
 
@@ -32,6 +32,6 @@ abbrev pub falling : (ℕ → ℕ → ℤ) → (w n y x : ℕ) → ℤ
 falling Q w n y x = edge_slopes Q (on_left w x) (on_right w x) n y
 
 -- what column j adds from row i to i+1 to the sum over a window of height h and width w: what enters and leaves at the flat parts of its edges, and at the slopes
-unfoldable pub edges_change : Size → (ℕ → ℕ → ℤ) → (h w i j : ℕ) → ℤ
+unfoldable pub edges_change : Frame → (ℕ → ℕ → ℤ) → (h w i j : ℕ) → ℤ
 edges_change z P h w i j =
     sum_to z.columns (λ n. pick (leb (column_gap z j n) (w - h)) (enter_leave z P i h n)) +ℤ (rising (padded P) w h (ABOVE + i) (MARGIN + j) +ℤ falling (padded P) w h (ABOVE + i) (MARGIN + j))

@@ -17,7 +17,7 @@ use Rattle.numbers.specs.Wrap.{wrap}
 use Rattle.numbers.proofs.Grids.{tabulate-cong}
 use Rattle.numbers.proofs.Wraps.{wrap-small}
 use Rattle.numbers.proofs.Writes.{at, part_length}
-use Rattle.spec_picture.specs.declared.Size.{Size}
+use Rattle.spec_picture.specs.declared.Frame.{Frame}
 use Rattle.spec_picture.specs.Window.{Shape, rectangle, slanted, shape_of, is_rectangle, height, width}
 use Rattle.spec_picture.specs.Picture.{Inputs, plane_at}
 use Rattle.spec_picture.specs.Direct.{window_sum, direct_sum}
@@ -43,7 +43,7 @@ module _ (corner : ℤ) (rises falls : List ℤ) where
   unfolding across_slopes
   across-more j = sym (ap (across_slopes corner rises falls) (add-one j))
 
-module _ (z : Size) (P : ℕ → ℕ → ℤ) (past : (m n : ℕ) → z.rows ≤ m → P m n ≡ pos 0) (beside : (m n : ℕ) → z.columns ≤ n → P m n ≡ pos 0) (lim : InLimits z) (small : (m n : ℕ) → nat_abs (P m n) ≤ 2 ^ 30)
+module _ (z : Frame) (P : ℕ → ℕ → ℤ) (past : (m n : ℕ) → z.rows ≤ m → P m n ≡ pos 0) (beside : (m n : ℕ) → z.columns ≤ n → P m n ≡ pos 0) (lim : InLimits z) (small : (m n : ℕ) → nat_abs (P m n) ≤ 2 ^ 30)
     (s : Shape) (no-rectangle : is_rectangle s ≡ false) (low : height s ≤ 127) (narrow : width s ≤ 127) (some : 1 ≤ height s) (rises falls : List ℤ)
     (kept : Slopes (padded P) z.columns (width s) (height s) ABOVE 0 rises falls) where
   across-is : (j : ℕ) → j < z.columns → across_slopes (window_sum z s P 0 0) rises falls j ≡ window_sum z s P 0 j
@@ -62,18 +62,18 @@ module _ (z : Size) (P : ℕ → ℕ → ℤ) (past : (m n : ℕ) → z.rows ≤
 
 -- the work area of row 0, as a call makes it from the first sum and the slopes
 pub fresh-row : (x : Inputs) (c : Checked x) (no-rectangle : is_rectangle (shape_of x.window) ≡ false) (some : 1 ≤ height (shape_of x.window)) (rises falls before next : List ℤ) (corner : ℤ) (n : ℕ) →
-    Slopes (padded (plane_at x.source)) x.source.size.columns (width (shape_of x.window)) (height (shape_of x.window)) ABOVE 0 rises falls →
-    corner ≡ direct_sum x 0 0 → n ≡ x.source.size.columns → next ≡ tabulate n (across_slopes corner rises falls) → next ≡ work_after x.source.size (plane_at x.source) (shape_of x.window) 0 before
+    Slopes (padded (plane_at x.source)) x.source.frame.columns (width (shape_of x.window)) (height (shape_of x.window)) ABOVE 0 rises falls →
+    corner ≡ direct_sum x 0 0 → n ≡ x.source.frame.columns → next ≡ tabulate n (across_slopes corner rises falls) → next ≡ work_after x.source.frame (plane_at x.source) (shape_of x.window) 0 before
 unfolding direct_sum
 fresh-row x c no-rectangle some rises falls before next corner n kept ec en e =
-    let z = x.source.size in
+    let z = x.source.frame in
     let P = plane_at x.source in
     e
     ∙ ap₂ (λ (m : ℕ) (v : ℤ). tabulate m (across_slopes v rises falls)) en ec
-    ∙ across-windows z P (plane-past x.source) (plane-beside x.source) (in-limits z c.size) (plane-bound x.source c.levels_f c.levels_g) (shape_of x.window) no-rectangle (height-small x.window c.window) (width_small x.window c.window) some rises falls kept
+    ∙ across-windows z P (plane-past x.source) (plane-beside x.source) (in-limits z c.frame) (plane-bound x.source c.levels_f c.levels_g) (shape_of x.window) no-rectangle (height-small x.window c.window) (width_small x.window c.window) some rises falls kept
     ∙ go (shape_of x.window) no-rectangle
   where
-    go : (s : Shape) → is_rectangle s ≡ false → tabulate x.source.size.columns (window_sum x.source.size s (plane_at x.source) 0) ≡ work_after x.source.size (plane_at x.source) s 0 before
+    go : (s : Shape) → is_rectangle s ≡ false → tabulate x.source.frame.columns (window_sum x.source.frame s (plane_at x.source) 0) ≡ work_after x.source.frame (plane_at x.source) s 0 before
     go (rectangle a b) e = absurd (true≢false e)
     go (slanted o) e = unfold work_after work_value in refl
 
@@ -98,10 +98,10 @@ put_rest start end out rest h e er =
     sym (take_all end (put_mid start (end - start) out rest) (omega arith)) ∙ ap (λ (m : ℕ). take m (put_mid start (end - start) out rest)) (sym span) ∙ put-behind start (end - start) out rest (omega arith) er
 
 pub rows-done : (x : Inputs) (fresh : Bool) (i n begin end : ℕ) (before next out work rest : List ℤ) → is_rectangle (shape_of x.window) ≡ false → (T fresh → i ≡ 0) → TopDone x fresh before next out begin →
-    begin ≤ end → length out ≡ end → length rest ≡ end - begin → Advanced (strip x.source.size (plane_at x.source) (shape_of x.window) (suc i) n next) work rest →
+    begin ≤ end → length out ≡ end → length rest ≡ end - begin → Advanced (strip x.source.frame (plane_at x.source) (shape_of x.window) (suc i) n next) work rest →
     FromDone x fresh i n before work (put_mid begin (end - begin) out rest)
 rows-done x true i n begin end before next out work rest no-rectangle at_0 top h e er a =
-    let z = x.source.size in
+    let z = x.source.frame in
     let P = plane_at x.source in
     let S = shape_of x.window in
     let row = top.front tt in
@@ -112,7 +112,7 @@ rows-done x true i n begin end before next out work rest no-rectangle at_0 top h
       behind = λ t. absurd t;
     }
 rows-done x false i n begin end before next out work rest no-rectangle at_0 top h e er a =
-    let z = x.source.size in
+    let z = x.source.frame in
     let P = plane_at x.source in
     let S = shape_of x.window in
     let put : put_mid begin (end - begin) out rest ≡ rest = put_rest begin end out rest h e er ∙ ap (λ (m : ℕ). take m out ++ rest) (top.none tt) in

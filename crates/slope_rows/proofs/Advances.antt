@@ -10,7 +10,7 @@ use borrow.Rule.Slice.PartMut.{put_mid}
 use Rattle.numbers.specs.Wrap.{wrap}
 use Rattle.numbers.proofs.Grids.{tabulate-cong, length-tabulate}
 use Rattle.numbers.proofs.Writes.{at}
-use Rattle.spec_picture.specs.declared.Size.{Size}
+use Rattle.spec_picture.specs.declared.Frame.{Frame}
 use Rattle.spec_picture.specs.Window.{Shape, shape_of}
 use Rattle.spec_picture.specs.Checked.{given, checked_source}
 use Rattle.spec_picture.proofs.Planes.{plane-past, plane-beside}
@@ -22,8 +22,8 @@ use Rattle.slope_rows.specs.declared.kept_slopes.SlantedInputs.{SlantedInputs}
 use Rattle.slope_rows.specs.Edges.{plane_in, edged}
 
 module _ (x : SlantedInputs) where
-  abbrev z : Size
-  z = x.inputs.source.size
+  abbrev z : Frame
+  z = x.inputs.source.frame
 
   abbrev P : ℕ → ℕ → ℤ
   P = plane_in x

@@ -25,7 +25,7 @@ use Rattle.slope_rows.proofs.Kept.{within-row, within-rises, within-falls}
 use Rattle.slope_loops.specs.declared.padding.TheConstants.{ABOVE, MARGIN, ROW_LENGTH}
 use Rattle.slope_rows.specs.declared.places.TheConstants.{FALLING_START, RISING_START}
 
-module _ (slanted : SlantedInputs) (i : ℕ) (below : i < slanted.inputs.source.size.rows) where
+module _ (slanted : SlantedInputs) (i : ℕ) (below : i < slanted.inputs.source.frame.rows) where
   abbrev given : CheckedSource
   given = slanted.inputs.source
 
@@ -36,7 +36,7 @@ module _ (slanted : SlantedInputs) (i : ℕ) (below : i < slanted.inputs.source.
   w = slanted.width
 
   abbrev columns : ℕ
-  columns = given.size.columns
+  columns = given.frame.columns
 
   abbrev P : ℕ → ℕ → ℤ
   P = plane_at (checked_source given)
@@ -49,7 +49,7 @@ module _ (slanted : SlantedInputs) (i : ℕ) (below : i < slanted.inputs.source.
       let z = limits given in
       omega (arith, z.few_rows, z.few_columns, below, slanted.fits.low, slanted.fits.narrow)
 
-  pub flat-asked : {work out : List ℤ} → length work ≡ columns → length out ≡ columns → FlatAsked given.size i h work out
+  pub flat-asked : {work out : List ℤ} → length work ≡ columns → length out ≡ columns → FlatAsked given.frame i h work out
   flat-asked l k = record {
     row = record { row = omega (arith, row-limits); distance = omega (arith, row-limits); room = l };
     room = k;

@@ -10,7 +10,7 @@ use lib.IntN.{ℤ, pos, ◌+ℤ◌, ◌-ℤ◌}
 use Rattle.numbers.specs.Sum.{sum_to, pick}
 use Rattle.numbers.proofs.Linear.{any, sums, ring}
 use Rattle.numbers.proofs.Sums.{sum-cong, sum-none, sum-add, sum-sub, sum-prefix, pick_yes, pick_no, pick-in, pick_out, near_step}
-use Rattle.spec_picture.specs.declared.Size.{Size}
+use Rattle.spec_picture.specs.declared.Frame.{Frame}
 use Rattle.spec_picture.specs.Window.{Shape, is_rectangle, height, reach, width}
 use Rattle.spec_picture.specs.Direct.{window_sum}
 use Rattle.spec_picture.proofs.Windows.{height-width, reach-slanted}
@@ -47,7 +47,7 @@ sum-upto a b f e =
     here k (yes h) = pick-in k b (f k) h
     here k (no h) = pick_out k b (f k) (omega arith) ∙ sym (e k (omega arith))
 
-module _ (z : Size) (P : ℕ → ℕ → ℤ) (past : (m n : ℕ) → z.rows ≤ m → P m n ≡ pos 0) (beside : (m n : ℕ) → z.columns ≤ n → P m n ≡ pos 0) where
+module _ (z : Frame) (P : ℕ → ℕ → ℤ) (past : (m n : ℕ) → z.rows ≤ m → P m n ≡ pos 0) (beside : (m n : ℕ) → z.columns ≤ n → P m n ≡ pos 0) where
   abbrev Q : ℕ → ℕ → ℤ
   Q = padded P
 

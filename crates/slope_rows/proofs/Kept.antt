@@ -15,8 +15,8 @@ use Rattle.numbers.specs.Wrap.{wrap}
 use Rattle.numbers.proofs.Grids.{tabulate-cong, get_d_tabulate}
 use Rattle.numbers.proofs.Wraps.{wrap-add}
 use Rattle.numbers.proofs.Writes.{at}
-use Rattle.spec_picture.specs.declared.Size.{Size}
-use Rattle.spec_picture.specs.Size.{column_gap}
+use Rattle.spec_picture.specs.declared.Frame.{Frame}
+use Rattle.spec_picture.specs.Frame.{column_gap}
 use Rattle.spec_rows.specs.Rows.{enter_leave}
 use Rattle.slope_loops.specs.declared.loops.GatherPlaces.{GatherPlaces}
 use Rattle.slope_loops.specs.declared.loops.SlidePlaces.{SlidePlaces}
@@ -156,7 +156,7 @@ module _ (P : ℕ → ℕ → ℤ) (columns : ℕ) (beside : (m n : ℕ) → col
     }
 
 -- ---- what a row of a call adds to the work area
-module _ (z : Size) (P : ℕ → ℕ → ℤ) (w h i m : ℕ) {rises falls : List ℤ} (turn : m ≤ 254) (l : Slopes (padded P) z.columns w h (ABOVE + i) m rises falls) where
+module _ (z : Frame) (P : ℕ → ℕ → ℤ) (w h i m : ℕ) {rises falls : List ℤ} (turn : m ≤ 254) (l : Slopes (padded P) z.columns w h (ABOVE + i) m rises falls) where
   abbrev flat : ℕ → ℤ
   flat j = sum_to z.columns (λ k. pick (leb (column_gap z j k) (w - h)) (enter_leave z P i h k))
 

@@ -37,16 +37,16 @@ plane_in x = plane_at (checked_source x.inputs.source)
 
 -- a row of the picture, and no slopes yet
 pub record StartAsked (x : SlantedInputs) (i : ℕ) (a b rises falls : List ℤ) : Type 0 where
-  pub inside : i < x.inputs.source.size.rows
-  pub blank_a : Blank a x.inputs.source.size.columns
-  pub blank_b : Blank b x.inputs.source.size.columns
-  pub slopes : Slopes (padded (plane_in x)) x.inputs.source.size.columns x.width 0 (ABOVE + i) 0 rises falls
+  pub inside : i < x.inputs.source.frame.rows
+  pub blank_a : Blank a x.inputs.source.frame.columns
+  pub blank_b : Blank b x.inputs.source.frame.columns
+  pub slopes : Slopes (padded (plane_in x)) x.inputs.source.frame.columns x.width 0 (ABOVE + i) 0 rises falls
 
 -- the slopes of row i
 pub record Started (x : SlantedInputs) (i : ℕ) (a b rises falls : List ℤ) : Type 0 where
-  pub blank_a : Blank a x.inputs.source.size.columns
-  pub blank_b : Blank b x.inputs.source.size.columns
-  pub slopes : Slopes (padded (plane_in x)) x.inputs.source.size.columns x.width x.height (ABOVE + i) 0 rises falls
+  pub blank_a : Blank a x.inputs.source.frame.columns
+  pub blank_b : Blank b x.inputs.source.frame.columns
+  pub slopes : Slopes (padded (plane_in x)) x.inputs.source.frame.columns x.width x.height (ABOVE + i) 0 rises falls
 
 -- the sum at column j of a row that begins with `corner`: from a column to the next its rising slopes come in and the falling ones of the next go
 unfoldable pub across_slopes : (corner : ℤ) → (rises falls : List ℤ) → (j : ℕ) → ℤ
@@ -62,33 +62,33 @@ pub record AcrossAsked (rises falls work out : List ℤ) : Type 0 where
 
 -- a row of a call, with its slopes, a work area, and room for a row
 pub record RowAsked (x : SlantedInputs) (here : CallRow) (a b c rises falls work out : List ℤ) : Type 0 where
-  pub inside : here.row < x.inputs.source.size.rows
+  pub inside : here.row < x.inputs.source.frame.rows
   pub turn : here.moved ≤ 254
-  pub rows : Rows x.inputs.source.size.columns a b c
-  pub slopes : Slopes (padded (plane_in x)) x.inputs.source.size.columns x.width x.height (ABOVE + here.row) here.moved rises falls
-  pub room_work : length work ≡ x.inputs.source.size.columns
-  pub room : length out ≡ x.inputs.source.size.columns
+  pub rows : Rows x.inputs.source.frame.columns a b c
+  pub slopes : Slopes (padded (plane_in x)) x.inputs.source.frame.columns x.width x.height (ABOVE + here.row) here.moved rises falls
+  pub room_work : length work ≡ x.inputs.source.frame.columns
+  pub room : length out ≡ x.inputs.source.frame.columns
 
 -- the work area with what each column adds from row i to i+1
 abbrev pub edged : SlantedInputs → (i : ℕ) → List ℤ → List ℤ
-edged x i work = tabulate x.inputs.source.size.columns (λ j. wrap (get_or work j (pos 0) +ℤ edges_change x.inputs.source.size (plane_in x) x.height x.width i j))
+edged x i work = tabulate x.inputs.source.frame.columns (λ j. wrap (get_or work j (pos 0) +ℤ edges_change x.inputs.source.frame (plane_in x) x.height x.width i j))
 
 -- the work area and the output row have moved on, and so have the slopes
 pub record RowDone (x : SlantedInputs) (here : CallRow) (before a b c rises falls work out : List ℤ) : Type 0 where
-  pub rows : Rows x.inputs.source.size.columns a b c
-  pub slopes : Slopes (padded (plane_in x)) x.inputs.source.size.columns x.width x.height (ABOVE + here.row + 1) (here.moved + 1) rises falls
+  pub rows : Rows x.inputs.source.frame.columns a b c
+  pub slopes : Slopes (padded (plane_in x)) x.inputs.source.frame.columns x.width x.height (ABOVE + here.row + 1) (here.moved + 1) rises falls
   pub work_is : work ≡ edged x here.row before
   pub output_is : out ≡ edged x here.row before
 
 -- ---- the rows that enter and leave in the middle are kept too
 pub record TakeAsked (x : SlantedInputs) (here : CallRow) (a c rises falls work out : List ℤ) : Type 0 where
-  pub inside : here.row < x.inputs.source.size.rows
+  pub inside : here.row < x.inputs.source.frame.rows
   pub turn : here.moved ≤ 254
   pub entering : Holds a (padded (plane_in x) (ABOVE + here.row + 1 + x.height))
   pub leaving : Holds c (padded (plane_in x) (ABOVE + here.row - x.height))
-  pub slopes : Slopes (padded (plane_in x)) x.inputs.source.size.columns x.width x.height (ABOVE + here.row) here.moved rises falls
-  pub room_work : length work ≡ x.inputs.source.size.columns
-  pub room : length out ≡ x.inputs.source.size.columns
+  pub slopes : Slopes (padded (plane_in x)) x.inputs.source.frame.columns x.width x.height (ABOVE + here.row) here.moved rises falls
+  pub room_work : length work ≡ x.inputs.source.frame.columns
+  pub room : length out ≡ x.inputs.source.frame.columns
 
 -- of a plane whose values the rows hold
 pub record LeavingAsked (holds : ℕ → Type 0) (x : SlantedInputs) (here : CallRow) (a b c rises falls work out : List ℤ) : Type 0 where
@@ -102,17 +102,17 @@ pub record LeavingDone (x : SlantedInputs) (here : CallRow) (before a b c rises 
 
 -- rows of the picture behind row i, a work area, and room for those rows
 pub record ManyAsked (x : SlantedInputs) (i n : ℕ) (work out : List ℤ) : Type 0 where
-  pub rows : i + n < x.inputs.source.size.rows
-  pub room_work : length work ≡ x.inputs.source.size.columns
-  pub room : length out ≡ n * x.inputs.source.size.columns
+  pub rows : i + n < x.inputs.source.frame.rows
+  pub room_work : length work ≡ x.inputs.source.frame.columns
+  pub room : length out ≡ n * x.inputs.source.frame.columns
 
 -- ---- many rows, of a plane whose values the rows hold
 -- the same with the slopes of the row before them, and the row that leaves in the middle
 pub record AfterAsked (holds : ℕ → Type 0) (x : SlantedInputs) (rows_after : RowsAfter) (a b c rises falls work out : List ℤ) : Type 0 where
   pub plane : holds (plane_number x.inputs.source.plane)
   pub many : ManyAsked x rows_after.row rows_after.count work out
-  pub rows : Rows x.inputs.source.size.columns a b c
-  pub slopes : Slopes (padded (plane_in x)) x.inputs.source.size.columns x.width x.height (ABOVE + rows_after.row) 0 rises falls
+  pub rows : Rows x.inputs.source.frame.columns a b c
+  pub slopes : Slopes (padded (plane_in x)) x.inputs.source.frame.columns x.width x.height (ABOVE + rows_after.row) 0 rises falls
   pub leaving : Holds c (padded (plane_in x) (ABOVE + rows_after.row - x.height))
 
 -- A window that has slopes: its height is 1 at least, which is not so of every slanted window; the first rows of the picture, one at least, a work area, and room for those rows
@@ -120,24 +120,24 @@ pub record FreshAsked (x : SlantedInputs) (n : ℕ) (work out : List ℤ) : Type
   pub plane : plane_number x.inputs.source.plane ≤ 2
   pub high : 1 ≤ x.height
   pub some : 1 ≤ n
-  pub rows : n ≤ x.inputs.source.size.rows
-  pub room_work : length work ≡ x.inputs.source.size.columns
-  pub room : length out ≡ n * x.inputs.source.size.columns
+  pub rows : n ≤ x.inputs.source.frame.rows
+  pub room_work : length work ≡ x.inputs.source.frame.columns
+  pub room : length out ≡ n * x.inputs.source.frame.columns
 
 -- the slopes of row 0, a work area and room for a row, where row 0 is to come by its slopes
 pub record TopAsked (x : SlantedInputs) (fresh : Bool) (rises falls work out : List ℤ) : Type 0 where
   pub high : T fresh → 1 ≤ x.height
-  pub slopes : T fresh → Slopes (padded (plane_in x)) x.inputs.source.size.columns x.width x.height ABOVE 0 rises falls
+  pub slopes : T fresh → Slopes (padded (plane_in x)) x.inputs.source.frame.columns x.width x.height ABOVE 0 rises falls
   pub length_rises : length rises ≡ ROW_LENGTH
   pub length_falls : length falls ≡ ROW_LENGTH
-  pub room_work : length work ≡ x.inputs.source.size.columns
-  pub room : T fresh → x.inputs.source.size.columns ≤ length out
+  pub room_work : length work ≡ x.inputs.source.frame.columns
+  pub room : T fresh → x.inputs.source.frame.columns ≤ length out
 
 -- the work area of row 0, and its row at the front of the output area; or nothing, and the other rows begin at the front
 pub record TopDone (x : Inputs) (fresh : Bool) (before work out : List ℤ) (begin : ℕ) : Type 0 where
-  pub begins : T fresh → begin ≡ x.source.size.columns
-  pub row : T fresh → work ≡ work_after x.source.size (plane_at x.source) (shape_of x.window) 0 before
-  pub front : T fresh → take x.source.size.columns out ≡ work
+  pub begins : T fresh → begin ≡ x.source.frame.columns
+  pub row : T fresh → work ≡ work_after x.source.frame (plane_at x.source) (shape_of x.window) 0 before
+  pub front : T fresh → take x.source.frame.columns out ≡ work
   pub none : T (not fresh) → begin ≡ 0
   pub kept : T (not fresh) → work ≡ before
 
@@ -146,11 +146,11 @@ pub record FromAsked (holds : ℕ → Type 0) (x : SlantedInputs) (fresh : Bool)
   pub plane : holds (plane_number x.inputs.source.plane)
   pub high : T fresh → 1 ≤ x.height
   pub at_0 : T fresh → i ≡ 0
-  pub rows : i + n < x.inputs.source.size.rows
-  pub room_work : length work ≡ x.inputs.source.size.columns
-  pub room_fresh : T fresh → length out ≡ suc n * x.inputs.source.size.columns
-  pub room_behind : T (not fresh) → length out ≡ n * x.inputs.source.size.columns
+  pub rows : i + n < x.inputs.source.frame.rows
+  pub room_work : length work ≡ x.inputs.source.frame.columns
+  pub room_fresh : T fresh → length out ≡ suc n * x.inputs.source.frame.columns
+  pub room_behind : T (not fresh) → length out ≡ n * x.inputs.source.frame.columns
 
 pub record FromDone (x : Inputs) (fresh : Bool) (i n : ℕ) (before work out : List ℤ) : Type 0 where
-  pub from_0 : T fresh → Advanced (strip x.source.size (plane_at x.source) (shape_of x.window) 0 (suc n) before) work out
-  pub behind : T (not fresh) → Advanced (strip x.source.size (plane_at x.source) (shape_of x.window) (suc i) n before) work out
+  pub from_0 : T fresh → Advanced (strip x.source.frame (plane_at x.source) (shape_of x.window) 0 (suc n) before) work out
+  pub behind : T (not fresh) → Advanced (strip x.source.frame (plane_at x.source) (shape_of x.window) (suc i) n before) work out

@@ -15,7 +15,7 @@ mod rows; // rows.rt: rows of any width
 // n rows behind row i, of which the work area has the sums.
 pub fn many(slanted: &SlantedInputs<'_>, i: usize, n: usize, work: &mut [i64], out: &mut [i64])
     requires { ManyAsked slanted.now i n work.old out.old }
-    ensures { Advanced (strip slanted.now.inputs.source.size (plane_in slanted.now) (shape_of (given slanted.now.inputs.window)) (suc i) n work.old) work.new out.new }
+    ensures { Advanced (strip slanted.now.inputs.source.frame (plane_in slanted.now) (shape_of (given slanted.now.inputs.window)) (suc i) n work.old) work.new out.new }
 {
     if slanted.inputs.source.plane.is_narrow() {
         rows_from::<i32>(false, slanted, i, n, work, out);
@@ -27,7 +27,7 @@ pub fn many(slanted: &SlantedInputs<'_>, i: usize, n: usize, work: &mut [i64], o
 // The first n rows, of a plane of ones or levels.
 pub fn fresh(slanted: &SlantedInputs<'_>, n: usize, work: &mut [i64], out: &mut [i64])
     requires { FreshAsked slanted.now n work.old out.old }
-    ensures { Advanced (strip slanted.now.inputs.source.size (plane_in slanted.now) (shape_of (given slanted.now.inputs.window)) 0 n work.old) work.new out.new }
+    ensures { Advanced (strip slanted.now.inputs.source.frame (plane_in slanted.now) (shape_of (given slanted.now.inputs.window)) 0 n work.old) work.new out.new }
 {
     rows_from::<i32>(true, slanted, 0, n - 1, work, out);
 }

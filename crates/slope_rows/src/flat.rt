@@ -6,7 +6,7 @@ ghost use Rattle.numbers.specs.Sum.{sum_to, pick};
 ghost use Rattle.numbers.specs.Wrap.{wrap};
 ghost use Rattle.spec_picture.specs.Picture.{plane_at};
 ghost use Rattle.spec_picture.specs.Checked.{checked_source};
-ghost use Rattle.spec_picture.specs.Size.{column_gap};
+ghost use Rattle.spec_picture.specs.Frame.{column_gap};
 ghost use Rattle.spec_rows.specs.Rows.{enter_leave};
 ghost use Rattle.slope_rows.specs.Asked.{FlatAsked};
 
@@ -15,6 +15,9 @@ use row_steps::step;
 use spec_picture::CheckedSource;
 
 // From row i to i+1, the columns at most k away at half height h: what enters and leaves there comes into the work area. The room for a row serves on the way.
+// Not inlined: within its caller it moved the loops over slopes, which then took 1.1 times as long.
+#[tactic(auto, unfolding(spec_picture::specs::Frame::frame_legal))]
+#[inline(never)]
 pub fn flat(
     source: &CheckedSource<'_>,
     i: usize,
@@ -23,14 +26,10 @@ pub fn flat(
     work: &mut [i64],
     row: &mut [i64],
 )
-    requires { FlatAsked source.now.size i h work.old row.old }
-    ensures { work.new ≡ tabulate source.now.size.columns (λ j. wrap (get_or work.old j (pos 0) +ℤ sum_to source.now.size.columns (λ n. pick (leb (column_gap source.now.size j n) k) (enter_leave source.now.size (plane_at (checked_source source.now)) i h n)))) }
+    requires { FlatAsked source.now.frame i h work.old row.old }
+    ensures { work.new ≡ tabulate source.now.frame.columns (λ j. wrap (get_or work.old j (pos 0) +ℤ sum_to source.now.frame.columns (λ n. pick (leb (column_gap source.now.frame j n) k) (enter_leave source.now.frame (plane_at (checked_source source.now)) i h n)))) }
 {
-    if k == 0 {
-        step::add_gain(source, i, h, work);
-        return;
-    }
-    let columns = source.size.columns;
+    let columns = source.frame.columns;
     // Room for the widest row, since there is no heap.
     let mut change = [0i64; 1024];
     step::gain(source, i, h, &mut change[..columns]);

@@ -47,7 +47,7 @@ fn take_in<S: Slope>(
 }
 
 // From a row to the next: the work area moves on, and so do the slopes; c has the row that leaves in the middle.
-#[tactic(auto, unfolding(spec_picture::specs::Size::size_legal))]
+#[tactic(auto, unfolding(spec_picture::specs::Frame::frame_legal))]
 pub fn row<S: Slope>(
     slanted: &SlantedInputs<'_>,
     here: CallRow,
@@ -65,7 +65,7 @@ pub fn row<S: Slope>(
     let h = slanted.height;
     let w = slanted.width;
     let k = w - h;
-    let n = slanted.inputs.source.size.columns + w;
+    let n = slanted.inputs.source.frame.columns + w;
     let below = ABOVE + here.row + 1;
     let moved = here.moved + 1;
     S::Value::load(&slanted.inputs.source, below + h, a);

@@ -15,7 +15,7 @@ use slope_loops::padding::{ABOVE, PlaneValue, ROW_LENGTH};
 // The rows and the slopes are arrays apart here, and no struct: `slope_rows::edges::rows::rows_from` says why.
 
 // The slopes of row i, h cells of each.
-#[tactic(auto, unfolding(spec_picture::specs::Size::size_legal))]
+#[tactic(auto, unfolding(spec_picture::specs::Frame::frame_legal))]
 pub fn start<S: Slope>(
     slanted: &SlantedInputs<'_>,
     i: usize,
@@ -29,7 +29,7 @@ pub fn start<S: Slope>(
 {
     let h = slanted.height;
     let w = slanted.width;
-    let n = slanted.inputs.source.size.columns + w;
+    let n = slanted.inputs.source.frame.columns + w;
     for t in 0..h {
         S::Value::load(&slanted.inputs.source, ABOVE + i + 1 + t, a);
         S::Value::load(&slanted.inputs.source, ABOVE + i - t, b);

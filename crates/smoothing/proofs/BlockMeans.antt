@@ -10,9 +10,9 @@ use lib.IntN.{ℤ, pos, nat_abs}
 use Rattle.numbers.specs.Round.{nearest}
 use Rattle.numbers.proofs.Grids.{get_d_tabulate, place_inside}
 use Rattle.numbers.proofs.Writes.{at}
-use Rattle.spec_picture.specs.declared.Size.{Size}
+use Rattle.spec_picture.specs.declared.Frame.{Frame}
 use Rattle.spec_picture.specs.declared.Window.{Window}
-use Rattle.spec_picture.specs.Size.{cells}
+use Rattle.spec_picture.specs.Frame.{cells}
 use Rattle.spec_picture.specs.Picture.{Inputs}
 use Rattle.spec_picture.specs.Direct.{direct_sum}
 use Rattle.spec_picture.proofs.Found.{Checked}
@@ -26,11 +26,11 @@ use Rattle.smoothing.specs.Means.{LevelMean, MeansAsked, means_of}
 use Rattle.spec_smoothing.proofs.Means.{counted, mean-level}
 
 -- m rows from row i on end within the picture
-pub block-end : (x : Inputs) (i m : ℕ) → i + m ≤ x.source.size.rows → i * x.source.size.columns + m * x.source.size.columns ≤ cells x.source.size
-block-end x i m within = omega (arith, add-mul i m x.source.size.columns, mul-le-mul_right x.source.size.columns within)
+pub block-end : (x : Inputs) (i m : ℕ) → i + m ≤ x.source.frame.rows → i * x.source.frame.columns + m * x.source.frame.columns ≤ cells x.source.frame
+block-end x i m within = omega (arith, add-mul i m x.source.frame.columns, mul-le-mul_right x.source.frame.columns within)
 
 -- a cell of a picture alone has a count, and its mean is a level
-alone-mean : (z : Size) (f : List ℤ) (w : Window) → Checked (alone z f w) → (i j : ℕ) → i < z.rows → j < z.columns →
+alone-mean : (z : Frame) (f : List ℤ) (w : Window) → Checked (alone z f w) → (i j : ℕ) → i < z.rows → j < z.columns →
     LevelMean (direct_sum (on_plane (alone z f w) 0) i j) (direct_sum (on_plane (alone z f w) 1) i j)
 unfolding mean
 alone-mean z f w c i j below h =
@@ -42,11 +42,11 @@ alone-mean z f w c i j below h =
     }
 
 -- the cells of m rows from row i on of a picture alone, at the fronts of n and s
-module _ (x : Inputs) (c : Checked x) (a : x ≡ alone x.source.size x.source.f x.window) (i m : ℕ) (within : i + m ≤ x.source.size.rows)
+module _ (x : Inputs) (c : Checked x) (a : x ≡ alone x.source.frame x.source.f x.window) (i m : ℕ) (within : i + m ≤ x.source.frame.rows)
     (n s out : List ℤ) (n-is : RowSums (on_plane x 0) i m n) (s-is : RowSums (on_plane x 1) i m s)
-    (room : length out ≡ m * x.source.size.columns) where
-  abbrev z : Size
-  z = x.source.size
+    (room : length out ≡ m * x.source.frame.columns) where
+  abbrev z : Frame
+  z = x.source.frame
 
   cell-mean : (r j : ℕ) → r < m → j < z.columns → LevelMean (direct_sum (on_plane x 0) (i + r) j) (direct_sum (on_plane x 1) (i + r) j)
   cell-mean r j h =

@@ -15,10 +15,10 @@ use windows::clip;
 // rows of its sums in n and s.
 pub fn every_row(inputs: &CheckedInputs<'_>, out: &mut [i16])
     requires { SmoothAsked (checked_inputs inputs.now) out.old }
-    ensures { out.new ≡ smoothed inputs.now.source.size inputs.now.source.f.now (given inputs.now.window) }
+    ensures { out.new ≡ smoothed inputs.now.source.frame inputs.now.source.f.now (given inputs.now.window) }
 {
-    let rows = inputs.source.size.rows;
-    let columns = inputs.source.size.columns;
+    let rows = inputs.source.frame.rows;
+    let columns = inputs.source.frame.columns;
     let ones = inputs.on_plane(Plane::One);
     let levels = inputs.on_plane(Plane::F);
     let mut counts = [0i64; 1024];

@@ -10,7 +10,7 @@ use Rattle.numbers.specs.Sum.{sum_to, pick}
 use Rattle.numbers.specs.Round.{floor_div, nearest, root_step, root_in, root, root_over}
 use Rattle.spec_picture.specs.Refusal.{Outcome, refused, answered, refusal, outcome}
 use Rattle.spec_picture.specs.declared.Cell.{Cell}
-use Rattle.spec_picture.specs.Size.{size, cell, size_legal, in_range}
+use Rattle.spec_picture.specs.Frame.{frame, cell, frame_legal, in_range}
 use Rattle.spec_picture.specs.Window.{window, rectangle_legal, window_legal, shape_of, height, reach}
 use Rattle.spec_picture.specs.Picture.{no_shift, shift_legal, inputs, counts, plane_value, plane_at}
 use Rattle.spec_picture.specs.Direct.{window_sum, direct_sum, direct_call}
@@ -25,7 +25,7 @@ use Rattle.spec_c.specs.Reply.{Reply, VoiceResult, with_value, status, result_or
 
 -- ---- the direct sum of a plane of the picture 1 2 over a window of one cell
 abbrev direct : (plane column : ℕ) → Reply ℤ
-direct p j = reply with_value (direct_call (inputs (size 1 2) (pos 1 ∷ pos 2 ∷ []) (pos 1 ∷ pos 2 ∷ []) (window 1 (pos 0) (pos 0)) no_shift p) 0 j)
+direct p j = reply with_value (direct_call (inputs (frame 1 2) (pos 1 ∷ pos 2 ∷ []) (pos 1 ∷ pos 2 ∷ []) (window 1 (pos 0) (pos 0)) no_shift p) 0 j)
 
 -- an answer has status 0, and its sum takes the place of what stood behind the pointer; a call that is refused has its number for a status,
 -- 5 for a plane above 5 and 6 for a cell outside, and leaves what stood there
@@ -33,7 +33,7 @@ pub sums-replied :
     (status (direct 1 1) ≡ pos 0) × (result_or (pos 77) (direct 1 1) ≡ pos 2) ×
     (status (direct 6 1) ≡ pos 5) × (result_or (pos 77) (direct 6 1) ≡ pos 77) ×
     (status (direct 1 2) ≡ pos 6) × (result_or (pos 77) (direct 1 2) ≡ pos 77)
-unfolding status result_or reply direct_call outcome refusal direct_sum window_sum plane_at plane_value counts in_range shape_of height reach window_legal rectangle_legal size_legal shift_legal sum_to pick
+unfolding status result_or reply direct_call outcome refusal direct_sum window_sum plane_at plane_value counts in_range shape_of height reach window_legal rectangle_legal frame_legal shift_legal sum_to pick
 sums-replied = (refl, refl, refl, refl, refl, refl)
 
 -- ---- the mean
@@ -87,14 +87,14 @@ voices-replied = (refl, refl, refl)
 
 -- ---- the search over one row and three columns, where row 8 and column 9 stood
 abbrev searched : List ℤ → Reply Cell
-searched f = reply of_cell (steady_call (size 1 3) f f (window 1 (pos 0) (pos 1)) no_shift)
+searched f = reply of_cell (steady_call (frame 1 3) f f (window 1 (pos 0) (pos 1)) no_shift)
 
 -- 1 2 2 is steady at its last cell; 1 2 1 nowhere, -3; two levels are no picture of this size, 2
 pub cells-replied :
     (status (searched (pos 1 ∷ pos 2 ∷ pos 2 ∷ [])) ≡ pos 0) × (result_or (cell 8 9) (searched (pos 1 ∷ pos 2 ∷ pos 2 ∷ [])) ≡ cell 0 2) ×
     (status (searched (pos 1 ∷ pos 2 ∷ pos 1 ∷ [])) ≡ negsuc 2) × (result_or (cell 8 9) (searched (pos 1 ∷ pos 2 ∷ pos 1 ∷ [])) ≡ cell 8 9) ×
     (status (searched (pos 1 ∷ pos 2 ∷ [])) ≡ pos 2)
-unfolding status result_or reply steady_call first_steady find_cell find_column or_else outcome voice direct_sum window_sum plane_at plane_value counts in_range shape_of height reach window_legal rectangle_legal size_legal shift_legal refusal sum_to pick
+unfolding status result_or reply steady_call first_steady find_cell find_column or_else outcome voice direct_sum window_sum plane_at plane_value counts in_range shape_of height reach window_legal rectangle_legal frame_legal shift_legal refusal sum_to pick
 cells-replied = (refl, refl, refl, refl, refl)
 
 -- ---- a row call, where granted 77 stood: of 2 rows from position 1 on, and one that is turned down by 7, which keeps all

@@ -11,19 +11,19 @@ use lib.ListN.{length, get_or}
 use lib.IntN.{ℤ, pos, negsuc}
 use lib.Signed.{le_z, mag}
 use Rattle.spec_picture.specs.Refusal.{refused, answered}
-use Rattle.spec_picture.specs.declared.Size.{Size}
-use Rattle.spec_picture.specs.Size.{size, cells}
+use Rattle.spec_picture.specs.declared.Frame.{Frame}
+use Rattle.spec_picture.specs.Frame.{frame, cells}
 use Rattle.spec_picture.specs.declared.Window.{Window}
 use Rattle.spec_picture.specs.Window.{window, window_legal}
 use Rattle.spec_picture.specs.Picture.{Levels}
 use Rattle.numbers.proofs.Tests.{and_left, and_right}
 use Rattle.spec_panel.specs.Text.{runs, number}
-use Rattle.spec_panel.specs.Panel.{Drawing, count_of, panel_size, is_level, levels_of, framed, filled, sized, parsed}
+use Rattle.spec_panel.specs.Panel.{Drawing, count_of, panel_frame, is_level, levels_of, windowed, filled, sized, parsed}
 
 pub record Legal (d : Drawing) : Type 0 where
-  pub size : T (panel_size d.size)
+  pub frame : T (panel_frame d.frame)
   pub window : T (window_legal d.window)
-  pub full : length d.levels ≡ cells d.size
+  pub full : length d.levels ≡ cells d.frame
   pub levels : Levels d.levels
 
 -- what a list of levels has
@@ -66,17 +66,17 @@ levels-good (suc k) (Some n ∷ ns) l e = go (is_level n) refl (levels_of k ns) 
         subst (Good (suc k)) q (one_more k n t (rw eb tt) (h t refl))
     go false eb r h e = absurd (never e)
 
-module _ (z : Size) (ok : T (panel_size z)) where
-  framed-legal : (w : Window) (o : Option (List ℤ)) → ((l : List ℤ) → o ≡ Some l → Good (cells z) l) → (d : Drawing) → framed z w o ≡ answered d → Legal d
-  unfolding framed
-  framed-legal w None h d e = absurd (refuses e)
-  framed-legal w (Some l) h d e = go (window_legal w) refl e
+module _ (z : Frame) (ok : T (panel_frame z)) where
+  windowed-legal : (w : Window) (o : Option (List ℤ)) → ((l : List ℤ) → o ≡ Some l → Good (cells z) l) → (d : Drawing) → windowed z w o ≡ answered d → Legal d
+  unfolding windowed
+  windowed-legal w None h d e = absurd (refuses e)
+  windowed-legal w (Some l) h d e = go (window_legal w) refl e
     where
-      go : (b : Bool) → window_legal w ≡ b → elim b [ true ↦ answered (record { size = z; window = w; levels = l }) | false ↦ refused 3 ] ≡ answered d → Legal d
+      go : (b : Bool) → window_legal w ≡ b → elim b [ true ↦ answered (record { frame = z; window = w; levels = l }) | false ↦ refused 3 ] ≡ answered d → Legal d
       go true eb e =
-          let q : record { size = z; window = w; levels = l } ≡ d = cc in
+          let q : record { frame = z; window = w; levels = l } ≡ d = cc in
           let g = h l refl in
-          subst Legal q (record { size = ok; window = rw eb tt; full = g.full; levels = record { level = g.level } })
+          subst Legal q (record { frame = ok; window = rw eb tt; full = g.full; levels = record { level = g.level } })
       go false eb e = absurd (refuses e)
 
   filled-legal : (ns : List (Option ℤ)) (d : Drawing) → filled z ns ≡ answered d → Legal d
@@ -87,7 +87,7 @@ module _ (z : Size) (ok : T (panel_size z)) where
   filled-legal (Some s ∷ None ∷ ns) d e = absurd (refuses e)
   filled-legal (Some s ∷ Some a ∷ []) d e = absurd (refuses e)
   filled-legal (Some s ∷ Some a ∷ None ∷ ns) d e = absurd (refuses e)
-  filled-legal (Some s ∷ Some a ∷ Some b ∷ ns) d e = framed-legal (window (count_of s) a b) (levels_of (cells z) ns) (levels-good (cells z) ns) d e
+  filled-legal (Some s ∷ Some a ∷ Some b ∷ ns) d e = windowed-legal (window (count_of s) a b) (levels_of (cells z) ns) (levels-good (cells z) ns) d e
 
 sized-legal : (ns : List (Option ℤ)) (d : Drawing) → sized ns ≡ answered d → Legal d
 unfolding sized
@@ -95,10 +95,10 @@ sized-legal [] d e = absurd (refuses e)
 sized-legal (None ∷ ns) d e = absurd (refuses e)
 sized-legal (Some r ∷ []) d e = absurd (refuses e)
 sized-legal (Some r ∷ None ∷ ns) d e = absurd (refuses e)
-sized-legal (Some r ∷ Some c ∷ ns) d e = go (panel_size (size (count_of r) (count_of c))) refl e
+sized-legal (Some r ∷ Some c ∷ ns) d e = go (panel_frame (frame (count_of r) (count_of c))) refl e
   where
-    go : (b : Bool) → panel_size (size (count_of r) (count_of c)) ≡ b → elim b [ true ↦ filled (size (count_of r) (count_of c)) ns | false ↦ refused 1 ] ≡ answered d → Legal d
-    go true eb e = filled-legal (size (count_of r) (count_of c)) (rw eb tt) ns d e
+    go : (b : Bool) → panel_frame (frame (count_of r) (count_of c)) ≡ b → elim b [ true ↦ filled (frame (count_of r) (count_of c)) ns | false ↦ refused 1 ] ≡ answered d → Legal d
+    go true eb e = filled-legal (frame (count_of r) (count_of c)) (rw eb tt) ns d e
     go false eb e = absurd (refuses e)
 
 pub parsed-legal : (text : List ℕ) (d : Drawing) → parsed text ≡ answered d → Legal d

@@ -4,14 +4,14 @@ use Rattle.std.specs.Prelude.{ℕ, zero, suc, ◌+◌, ◌*◌, Bool, true, fals
 use Rattle.spec_picture.specs.Refusal.{Outcome, refused, answered}
 use Rattle.spec_picture.specs.declared.Window.{Window}
 use Rattle.spec_picture.specs.Window.{window, window_legal, between}
-use Rattle.spec_picture.specs.declared.Size.{Size}
-use Rattle.spec_picture.specs.Size.{size, size_legal, cells}
+use Rattle.spec_picture.specs.declared.Frame.{Frame}
+use Rattle.spec_picture.specs.Frame.{frame, frame_legal, cells}
 use Rattle.spec_smoothing.specs.Smoothing.{smoothed}
 use Rattle.spec_panel.specs.Text.{space, line_feed, runs, number, decimal, printed}
 
 -- what the text asks for
 pub record Drawing : Type 0 where
-  pub size : Size
+  pub frame : Frame
   pub window : Window
   pub levels : List ℤ
 
@@ -21,8 +21,8 @@ count_of (pos n) = n
 count_of (negsuc n) = 0
 
 -- "either beyond limits or more than 4,096 cells"
-unfoldable pub panel_size : Size → Bool
-panel_size z = size_legal z && leb (cells z) 4096
+unfoldable pub panel_frame : Frame → Bool
+panel_frame z = frame_legal z && leb (cells z) 4096
 
 -- a level of 16 bits
 abbrev pub is_level : ℤ → Bool
@@ -37,19 +37,19 @@ levels_of (suc k) (None ∷ ns) = None
 levels_of (suc k) (Some n ∷ ns) = elim (is_level n) [ true ↦ option_map (λ l. n ∷ l) (levels_of k ns) | false ↦ None ]
 
 -- the last check: "then 3"
-unfoldable pub framed : Size → Window → Option (List ℤ) → Outcome Drawing
-framed z w None = refused 10
-framed z w (Some l) = elim (window_legal w) [ true ↦ answered (record { size = z; window = w; levels = l }) | false ↦ refused 3 ]
+unfoldable pub windowed : Frame → Window → Option (List ℤ) → Outcome Drawing
+windowed z w None = refused 10
+windowed z w (Some l) = elim (window_legal w) [ true ↦ answered (record { frame = z; window = w; levels = l }) | false ↦ refused 3 ]
 
 -- "any other malformed, missing or extra number or a level beyond 16 bits, 10"
-unfoldable pub filled : Size → List (Option ℤ) → Outcome Drawing
+unfoldable pub filled : Frame → List (Option ℤ) → Outcome Drawing
 filled z [] = refused 10
 filled z (None ∷ ns) = refused 10
 filled z (Some s ∷ []) = refused 10
 filled z (Some s ∷ None ∷ ns) = refused 10
 filled z (Some s ∷ Some a ∷ []) = refused 10
 filled z (Some s ∷ Some a ∷ None ∷ ns) = refused 10
-filled z (Some s ∷ Some a ∷ Some b ∷ ns) = framed z (window (count_of s) a b) (levels_of (cells z) ns)
+filled z (Some s ∷ Some a ∷ Some b ∷ ns) = windowed z (window (count_of s) a b) (levels_of (cells z) ns)
 
 -- "rows or columns malformed or missing, 10; either beyond limits or more than 4,096 cells, 1"
 unfoldable pub sized : List (Option ℤ) → Outcome Drawing
@@ -57,7 +57,7 @@ sized [] = refused 10
 sized (None ∷ ns) = refused 10
 sized (Some r ∷ []) = refused 10
 sized (Some r ∷ None ∷ ns) = refused 10
-sized (Some r ∷ Some c ∷ ns) = elim (panel_size (size (count_of r) (count_of c))) [ true ↦ filled (size (count_of r) (count_of c)) ns | false ↦ refused 1 ]
+sized (Some r ∷ Some c ∷ ns) = elim (panel_frame (frame (count_of r) (count_of c))) [ true ↦ filled (frame (count_of r) (count_of c)) ns | false ↦ refused 1 ]
 
 -- "The order is: longer input, 10; .."
 unfoldable pub parsed : List ℕ → Outcome Drawing
@@ -83,8 +83,8 @@ refused_line n = 114 ∷ 101 ∷ 102 ∷ 117 ∷ 115 ∷ 101 ∷ 100 ∷ space �
 unfoldable pub shown : Outcome Drawing → List ℕ
 shown (refused n) = refused_line n
 shown (answered d) =
-    let out = smoothed d.size d.levels d.window in
-    lines_of (λ i j. get_or out (i * d.size.columns + j) (pos 0)) 0 d.size.rows d.size.columns
+    let out = smoothed d.frame d.levels d.window in
+    lines_of (λ i j. get_or out (i * d.frame.columns + j) (pos 0)) 0 d.frame.rows d.frame.columns
 
 unfoldable pub panel : List ℕ → List ℕ
 panel text = shown (parsed text)

@@ -9,7 +9,7 @@ use Rattle.numbers.specs.Sum.{sum_to, pick}
 use Rattle.spec_picture.specs.Refusal.{refusal}
 use Rattle.spec_picture.specs.declared.Shift.{Shift}
 use Rattle.spec_picture.specs.declared.Window.{Window}
-use Rattle.spec_picture.specs.Size.{size, size_legal, in_range}
+use Rattle.spec_picture.specs.Frame.{frame, frame_legal, in_range}
 use Rattle.spec_picture.specs.Window.{window, rectangle_legal, diamond_legal, hexagon_legal, window_legal, shape_of, height, reach}
 use Rattle.spec_picture.specs.Picture.{shift, shift_legal, inputs, counts, plane_value, plane_at}
 use Rattle.spec_picture.specs.Conditions.{check1, check3, check4, check7, check8}
@@ -23,7 +23,7 @@ abbrev g : List ℤ
 g = pos 10 ∷ pos 20 ∷ pos 30 ∷ pos 40 ∷ pos 50 ∷ pos 60 ∷ []
 
 abbrev sum : Window → Shift → (plane i j : ℕ) → ℤ
-sum w d p i j = direct_sum (inputs (size 2 3) f g w d p) i j
+sum w d p i j = direct_sum (inputs (frame 2 3) f g w d p) i j
 
 -- a window of one cell, and a rectangle 1, 1
 abbrev one : Window
@@ -57,8 +57,8 @@ unfolding direct_sum window_sum plane_at plane_value counts in_range shape_of he
 counted = (refl, refl, refl, refl)
 
 -- "256 rows pass, 0 and 257 give 1"
-pub rows-limits : (refusal (check1 (size 256 1) ∷ []) ≡ none) × (refusal (check1 (size 0 1) ∷ []) ≡ some 1) × (refusal (check1 (size 257 1) ∷ []) ≡ some 1)
-unfolding refusal size_legal
+pub rows-limits : (refusal (check1 (frame 256 1) ∷ []) ≡ none) × (refusal (check1 (frame 0 1) ∷ []) ≡ some 1) × (refusal (check1 (frame 257 1) ∷ []) ≡ some 1)
+unfolding refusal frame_legal
 rows-limits = (refl, refl, refl)
 
 -- a rectangle's numbers, "each number 0 to 127": 127 passes, 128 gives 3, and so does -1
@@ -85,7 +85,7 @@ shift-limits = (refl, refl, refl, refl, refl, refl)
 
 -- "position above rows, or request above rows minus position", of 2 rows: 2 and 0, 1 and 1 pass; 3 and 0, 1 and 2 give 7
 pub request-limits :
-    (refusal (check7 (size 2 3) 2 0 ∷ []) ≡ none) × (refusal (check7 (size 2 3) 1 1 ∷ []) ≡ none) × (refusal (check7 (size 2 3) 3 0 ∷ []) ≡ some 7) × (refusal (check7 (size 2 3) 1 2 ∷ []) ≡ some 7)
+    (refusal (check7 (frame 2 3) 2 0 ∷ []) ≡ none) × (refusal (check7 (frame 2 3) 1 1 ∷ []) ≡ none) × (refusal (check7 (frame 2 3) 3 0 ∷ []) ≡ some 7) × (refusal (check7 (frame 2 3) 1 2 ∷ []) ≡ some 7)
 unfolding refusal
 request-limits = (refl, refl, refl, refl)
 

@@ -7,11 +7,11 @@ use lib.Dec.{T, eqb, eqb→eq}
 use lib.ListN.{length}
 use lib.IntN.{ℤ}
 use Rattle.numbers.proofs.Tests.{of-not}
-use Rattle.spec_picture.specs.declared.Size.{Size}
+use Rattle.spec_picture.specs.declared.Frame.{Frame}
 use Rattle.spec_picture.specs.Refusal.{refusal}
 use Rattle.spec_picture.specs.Conditions.{picture_checks}
 use Rattle.spec_picture.proofs.Refusals.{InLimits, in-limits, none-head, none_rest}
-use Rattle.spec_picture.specs.Size.{size_legal, cells}
+use Rattle.spec_picture.specs.Frame.{frame_legal, cells}
 use Rattle.spec_picture.specs.Window.{window_legal}
 use Rattle.spec_picture.specs.Picture.{Inputs, Levels}
 use Rattle.spec_picture.specs.declared.checked.CheckedSource.{CheckedSource}
@@ -19,26 +19,26 @@ use Rattle.spec_picture.specs.declared.checked.CheckedInputs.{CheckedInputs}
 use Rattle.spec_picture.specs.Checked.{checked_inputs}
 
 -- pictures that pass 1 and 2
-pub record Lengths (z : Size) (f g : List ℤ) : Type 0 where
-  pub size : T (size_legal z)
+pub record Lengths (z : Frame) (f g : List ℤ) : Type 0 where
+  pub frame : T (frame_legal z)
   pub length_f : length f ≡ cells z
   pub length_g : length g ≡ cells z
 
-pub lengths : (z : Size) (f g : List ℤ) → none ≡ refusal (picture_checks z f g) → Lengths z f g
+pub lengths : (z : Frame) (f g : List ℤ) → none ≡ refusal (picture_checks z f g) → Lengths z f g
 lengths z f g e =
     let one = sym e in
     let two = none_rest 1 _ _ one in
     record {
-      size = of-not (size_legal z) (none-head 1 _ _ one);
+      frame = of-not (frame_legal z) (none-head 1 _ _ one);
       length_f = eqb→eq (length f) (cells z) (of-not (eqb (length f) (cells z)) (none-head 2 _ _ two));
       length_g = eqb→eq (length g) (cells z) (of-not (eqb (length g) (cells z)) (none-head 2 _ _ (none_rest 2 _ _ two)));
     }
 
--- pictures of levels, of a legal size, and a legal window
+-- pictures of levels, of a legal frame, and a legal window
 pub record Checked (x : Inputs) : Type 0 where
-  pub size : T (size_legal x.source.size)
-  pub length_f : length x.source.f ≡ cells x.source.size
-  pub length_g : length x.source.g ≡ cells x.source.size
+  pub frame : T (frame_legal x.source.frame)
+  pub length_f : length x.source.f ≡ cells x.source.frame
+  pub length_g : length x.source.g ≡ cells x.source.frame
   pub levels_f : Levels x.source.f
   pub levels_g : Levels x.source.g
   pub window : T (window_legal x.window)
@@ -46,7 +46,7 @@ pub record Checked (x : Inputs) : Type 0 where
 pub checked : (x : CheckedInputs) → Checked (checked_inputs x)
 checked x =
     let s = x.source in
-    record { size = s.legal; length_f = s.length_f; length_g = s.length_g; levels_f = s.levels_f; levels_g = s.levels_g; window = x.window.legal }
+    record { frame = s.legal; length_f = s.length_f; length_g = s.length_g; levels_f = s.levels_f; levels_g = s.levels_g; window = x.window.legal }
 
-pub limits : (x : CheckedSource) → InLimits x.size
-limits x = in-limits x.size x.legal
+pub limits : (x : CheckedSource) → InLimits x.frame
+limits x = in-limits x.frame x.legal

@@ -10,8 +10,8 @@ use Rattle.numbers.specs.Sum.{sum_to, pick, dist}
 use Rattle.numbers.proofs.Integers.{up, dn, sub-law}
 use Rattle.numbers.proofs.Linear.{any, sums, ring}
 use Rattle.numbers.proofs.Sums.{sum_near, sum_more, sum_less, pick_yes, pick_no}
-use Rattle.spec_picture.specs.declared.Size.{Size}
-use Rattle.spec_picture.specs.Size.{row_gap, column_gap}
+use Rattle.spec_picture.specs.declared.Frame.{Frame}
+use Rattle.spec_picture.specs.Frame.{row_gap, column_gap}
 use Rattle.spec_picture.specs.Window.{Shape, height, reach, shape_of}
 use Rattle.spec_picture.specs.Picture.{Inputs, plane_at}
 use Rattle.spec_picture.specs.Direct.{window_sum, direct_sum}
@@ -64,7 +64,7 @@ by-offsets n j (suc r) f =
     (ap₂ ◌+ℤ◌ (ap (λ (k : ℕ). pick (ltb k n) (f k)) e') (sym (back n j r f)))
 
 -- a row of the plane, as `extended` has it
-row_inside : (z : Size) (P : ℕ → ℕ → ℤ) (m : ℕ) (c : ℤ) → extended z P (pos m) c ≡ pick (ltb m z.rows) (clipped z.columns (P m) c)
+row_inside : (z : Frame) (P : ℕ → ℕ → ℤ) (m : ℕ) (c : ℤ) → extended z P (pos m) c ≡ pick (ltb m z.rows) (clipped z.columns (P m) c)
 unfolding extended clipped pick
 row_inside z P m (pos n) = refl
 row_inside z P m (negsuc n) = zero-pick (ltb m z.rows)
@@ -93,7 +93,7 @@ gap i (negsuc d) m e =
     let l : dn (sub_ℕ i (suc d)) ≡ 0 = ap dn e in
     omega (arith, sub-law i (suc d))
 
-module _ (z : Size) (s : Shape) (P : ℕ → ℕ → ℤ) (i j : ℕ) where
+module _ (z : Frame) (s : Shape) (P : ℕ → ℕ → ℤ) (i j : ℕ) where
   -- the part of row m that lies in the window
   abbrev part : ℕ → ℤ
   part m = sum_to z.columns (λ n. pick (leb (column_gap z j n) (reach s (row_gap z i m))) (P m n))
@@ -118,6 +118,6 @@ module _ (z : Size) (s : Shape) (P : ℕ → ℕ → ℤ) (i j : ℕ) where
       by_rows z s P i j ∙ by-offsets z.rows i (height s) part
       ∙ span-cong (height s) (λ p. clipped z.rows part (pos i +ℤ p)) (λ p. sum_span (reach s (nat_abs p)) (λ q. extended z P (pos i +ℤ p) (pos j +ℤ q))) (λ p l. row p (pos i +ℤ p) refl)
 
-pub direct-offsets : (x : Inputs) (i j : ℕ) → direct_sum x i j ≡ offset_sum x.source.size (shape_of x.window) (plane_at x.source) (pos i) (pos j)
+pub direct-offsets : (x : Inputs) (i j : ℕ) → direct_sum x i j ≡ offset_sum x.source.frame (shape_of x.window) (plane_at x.source) (pos i) (pos j)
 unfolding direct_sum
-direct-offsets x i j = window-offsets x.source.size (shape_of x.window) (plane_at x.source) i j
+direct-offsets x i j = window-offsets x.source.frame (shape_of x.window) (plane_at x.source) i j

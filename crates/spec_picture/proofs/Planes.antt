@@ -11,7 +11,7 @@ use Rattle.numbers.proofs.Sums.{pick-bound, pick_no}
 use Rattle.numbers.proofs.Tests.{and_left, and_right}
 use Rattle.numbers.proofs.Magnitudes.{size-mul}
 use lib.Signed.{nat_abs-le}
-use Rattle.spec_picture.specs.Size.{in_range, inside, row_at, column_at}
+use Rattle.spec_picture.specs.Frame.{in_range, inside, row_at, column_at}
 use Rattle.spec_picture.specs.Picture.{Source, Levels, counts, plane_value, plane_at, level_of, other_of}
 
 pub product-bound : (x y : ℤ) → nat_abs x ≤ 32768 → nat_abs y ≤ 32768 → nat_abs (x *ℤ y) ≤ 2 ^ 30
@@ -35,10 +35,10 @@ value-level (suc (suc (suc p))) x y l h k = absurd (omega arith)
 
 module _ (x : Source) (hf : Levels x.f) (hg : Levels x.g) where
   pub level-bound : (m n : ℕ) → nat_abs (level_of x m n) ≤ 32768
-  level-bound m n = nat_abs-le (level_of x m n) (hf.level (m * x.size.columns + n))
+  level-bound m n = nat_abs-le (level_of x m n) (hf.level (m * x.frame.columns + n))
 
   pub other-bound : (m n : ℕ) → nat_abs (other_of x m n) ≤ 32768
-  other-bound m n = nat_abs-le (other_of x m n) (hg.level (row_at x.size (pos m +ℤ x.shift.down) * x.size.columns + column_at x.size (pos n +ℤ x.shift.right)))
+  other-bound m n = nat_abs-le (other_of x m n) (hg.level (row_at x.frame (pos m +ℤ x.shift.down) * x.frame.columns + column_at x.frame (pos n +ℤ x.shift.right)))
 
   pub plane-bound : (m n : ℕ) → nat_abs (plane_at x m n) ≤ 2 ^ 30
   unfolding plane_at
@@ -50,17 +50,17 @@ module _ (x : Source) (hf : Levels x.f) (hg : Levels x.g) where
   plane-level h m n = omega (arith, pick-bound (counts x m n) (plane_value x.plane (level_of x m n) (other_of x m n)), value-level x.plane (level_of x m n) (other_of x m n) h (level-bound m n) (other-bound m n))
 
 -- past the last row no cell counts
-pub plane-past : (x : Source) (m n : ℕ) → x.size.rows ≤ m → plane_at x m n ≡ pos 0
+pub plane-past : (x : Source) (m n : ℕ) → x.frame.rows ≤ m → plane_at x m n ≡ pos 0
 unfolding plane_at counts in_range
 plane-past x m n h =
-    let here = ltb m x.size.rows && ltb n x.size.columns in
-    let there = inside x.size (pos m +ℤ x.shift.down) (pos n +ℤ x.shift.right) in
-    pick_no (counts x m n) _ (λ t. omega (arith, ltb→lt m x.size.rows (and_left (ltb m x.size.rows) (ltb n x.size.columns) (and_left here there t))))
+    let here = ltb m x.frame.rows && ltb n x.frame.columns in
+    let there = inside x.frame (pos m +ℤ x.shift.down) (pos n +ℤ x.shift.right) in
+    pick_no (counts x m n) _ (λ t. omega (arith, ltb→lt m x.frame.rows (and_left (ltb m x.frame.rows) (ltb n x.frame.columns) (and_left here there t))))
 
 -- nor past the last column
-pub plane-beside : (x : Source) (m n : ℕ) → x.size.columns ≤ n → plane_at x m n ≡ pos 0
+pub plane-beside : (x : Source) (m n : ℕ) → x.frame.columns ≤ n → plane_at x m n ≡ pos 0
 unfolding plane_at counts in_range
 plane-beside x m n h =
-    let here = ltb m x.size.rows && ltb n x.size.columns in
-    let there = inside x.size (pos m +ℤ x.shift.down) (pos n +ℤ x.shift.right) in
-    pick_no (counts x m n) _ (λ t. omega (arith, ltb→lt n x.size.columns (and_right (ltb m x.size.rows) (ltb n x.size.columns) (and_left here there t))))
+    let here = ltb m x.frame.rows && ltb n x.frame.columns in
+    let there = inside x.frame (pos m +ℤ x.shift.down) (pos n +ℤ x.shift.right) in
+    pick_no (counts x m n) _ (λ t. omega (arith, ltb→lt n x.frame.columns (and_right (ltb m x.frame.rows) (ltb n x.frame.columns) (and_left here there t))))

@@ -14,8 +14,8 @@ use Rattle.std.specs.Prelude.{Result, Ok, Err, IsErrAnd}
 use Rattle.spec_picture.specs.declared.Refusal.{Refusal}
 use Rattle.spec_picture.specs.Answers.{number, outcome_by}
 use Rattle.spec_picture.specs.Window.{window_legal}
-use Rattle.spec_picture.specs.declared.Size.{Size}
-use Rattle.spec_picture.specs.Size.{size_legal, cells, Within}
+use Rattle.spec_picture.specs.declared.Frame.{Frame}
+use Rattle.spec_picture.specs.Frame.{frame_legal, cells, Within}
 use Rattle.spec_picture.specs.Picture.{Inputs, shift_legal}
 use Rattle.spec_picture.specs.Shape.{is_shape}
 use Rattle.spec_picture.specs.Conditions.{input_checks, accepted, check5, check6}
@@ -136,14 +136,14 @@ filling-some none old new n e = cc
 filling-some (some m) old new n e = cc
 
 -- ---- limits
-pub record InLimits (z : Size) : Type 0 where
+pub record InLimits (z : Frame) : Type 0 where
   pub some_rows : 1 ≤ z.rows
   pub few_rows : z.rows ≤ 256
   pub some_columns : 1 ≤ z.columns
   pub few_columns : z.columns ≤ 1024
 
-pub in-limits : (z : Size) → T (size_legal z) → InLimits z
-unfolding size_legal
+pub in-limits : (z : Frame) → T (frame_legal z) → InLimits z
+unfolding frame_legal
 in-limits z t =
     let a = leb 1 z.rows in
     let b = leb z.rows 256 in
@@ -162,15 +162,15 @@ in-limits z t =
 pub length-passes : (n m : ℕ) → n ≡ m → not (eqb n m) ≡ false
 length-passes n m e = rw e (not-of (eqb m m) (eqb_refl m))
 
-pub cell-passes : (z : Size) (i j : ℕ) → i < z.rows → j < z.columns → not (ltb i z.rows && ltb j z.columns) ≡ false
+pub cell-passes : (z : Frame) (i j : ℕ) → i < z.rows → j < z.columns → not (ltb i z.rows && ltb j z.columns) ≡ false
 cell-passes z i j hi hj =
     not-of (ltb i z.rows && ltb j z.columns) (and_both (ltb i z.rows) (ltb j z.columns) (lt→ltb i z.rows hi) (lt→ltb j z.columns hj))
 
 -- ---- what accepted inputs have
 pub record Accepted (x : Inputs) : Type 0 where
-  pub size : T (size_legal x.source.size)
-  pub length_f : length x.source.f ≡ cells x.source.size
-  pub length_g : length x.source.g ≡ cells x.source.size
+  pub frame : T (frame_legal x.source.frame)
+  pub length_f : length x.source.f ≡ cells x.source.frame
+  pub length_g : length x.source.g ≡ cells x.source.frame
   pub window : T (window_legal x.window)
   pub shift : T (shift_legal x.source.shift)
   pub plane : ltb 5 x.source.plane ≡ false
@@ -178,9 +178,9 @@ pub record Accepted (x : Inputs) : Type 0 where
 pub accepted-has : (x : Inputs) → accepted x → Accepted x
 accepted-has x e1 =
     let s = x.source in
-    let c1 = not (size_legal s.size) in
-    let cf = not (eqb (length s.f) (cells s.size)) in
-    let cg = not (eqb (length s.g) (cells s.size)) in
+    let c1 = not (frame_legal s.frame) in
+    let cf = not (eqb (length s.f) (cells s.frame)) in
+    let cg = not (eqb (length s.g) (cells s.frame)) in
     let c3 = not (window_legal x.window) in
     let c4 = not (shift_legal s.shift) in
     let c5 = ltb 5 s.plane in
@@ -195,9 +195,9 @@ accepted-has x e1 =
     let e4 = none_rest 3 c3 r4 e3 in
     let e5 = none_rest 4 c4 r5 e4 in
     record {
-      size = of-not (size_legal s.size) (none-head 1 c1 rf e1);
-      length_f = eqb→eq (length s.f) (cells s.size) (of-not (eqb (length s.f) (cells s.size)) (none-head 2 cf rg ef));
-      length_g = eqb→eq (length s.g) (cells s.size) (of-not (eqb (length s.g) (cells s.size)) (none-head 2 cg r3 eg));
+      frame = of-not (frame_legal s.frame) (none-head 1 c1 rf e1);
+      length_f = eqb→eq (length s.f) (cells s.frame) (of-not (eqb (length s.f) (cells s.frame)) (none-head 2 cf rg ef));
+      length_g = eqb→eq (length s.g) (cells s.frame) (of-not (eqb (length s.g) (cells s.frame)) (none-head 2 cg r3 eg));
       window = of-not (window_legal x.window) (none-head 3 c3 r4 e3);
       shift = of-not (shift_legal s.shift) (none-head 4 c4 r5 e4);
       plane = none-head 5 c5 [] e5;
@@ -209,23 +209,23 @@ unfolding numbers_of
 direct-order x i j = refl
 
 -- the direct call answers with the direct sum at every cell of the picture
-pub direct-answers : (x : Inputs) (i j : ℕ) → accepted x → i < x.source.size.rows → j < x.source.size.columns → direct_call x i j ≡ answered (direct_sum x i j)
+pub direct-answers : (x : Inputs) (i j : ℕ) → accepted x → i < x.source.frame.rows → j < x.source.frame.columns → direct_call x i j ≡ answered (direct_sum x i j)
 unfolding direct_call
 direct-answers x i j e hi hj =
-    let z = x.source.size in
+    let z = x.source.frame in
     outcome-none (refusal (direct_checks x i j)) (direct_sum x i j)
     (pass_all (input_checks x) (check6 z i j ∷ []) e
     ∙ pass 6 (not (ltb i z.rows && ltb j z.columns)) [] (cell-passes z i j hi hj)
     ∙ no-checks)
 
-pub cell-inside : (z : Size) (i j : ℕ) → not (ltb i z.rows && ltb j z.columns) ≡ false → Within z i j
+pub cell-inside : (z : Frame) (i j : ℕ) → not (ltb i z.rows && ltb j z.columns) ≡ false → Within z i j
 cell-inside z i j e =
     let t = of-not (ltb i z.rows && ltb j z.columns) e in
     record { row = ltb→lt i z.rows (and_left (ltb i z.rows) (ltb j z.columns) t); column = ltb→lt j z.columns (and_right (ltb i z.rows) (ltb j z.columns) t) }
 
-pub direct-taken : (x : Inputs) (i j : ℕ) → refusal (direct_checks x i j) ≡ none → accepted x × Within x.source.size i j
+pub direct-taken : (x : Inputs) (i j : ℕ) → refusal (direct_checks x i j) ≡ none → accepted x × Within x.source.frame i j
 direct-taken x i j taken =
-    let z = x.source.size in (
+    let z = x.source.frame in (
       none_before (input_checks x) (check6 z i j ∷ []) taken,
       cell-inside z i j (none-head 6 (not (ltb i z.rows && ltb j z.columns)) [] (none_after (input_checks x) (check6 z i j ∷ []) taken)),
     )

@@ -11,8 +11,8 @@ use Rattle.numbers.specs.Sum.{sum_to, pick}
 use Rattle.numbers.proofs.Sums.{sum-zero, sum-swap, sum_bound, pick-bound}
 use Rattle.spec_picture.specs.declared.Window.{Window}
 use Rattle.spec_picture.specs.Window.{window, Shape, rectangle, slanted, diamond, hexagon, rectangle_legal, diamond_legal, hexagon_legal, window_legal, shape_of, is_rectangle, height, reach, width, depth, holds, between}
-use Rattle.spec_picture.specs.declared.Size.{Size}
-use Rattle.spec_picture.specs.Size.{row_gap, column_gap}
+use Rattle.spec_picture.specs.declared.Frame.{Frame}
+use Rattle.spec_picture.specs.Frame.{row_gap, column_gap}
 use Rattle.spec_picture.specs.Direct.{window_sum}
 use Rattle.spec_picture.proofs.Legal.{to-127}
 use Rattle.numbers.proofs.Tests.{and_left, and_right, and_both, same_test}
@@ -39,7 +39,7 @@ turned s p q = same_test (leb p (height s) && leb q (reach s p)) (leb q (width s
 
 -- ---- the cells of a window in document 01's own words, for a cell (i, j) and a cell (m, n), p and q being how far apart they are
 -- "|p| + |q| ≤ r"
-pub diamond-holds : (z : Size) (r i j m n : ℕ) → holds z (slanted (diamond r)) i j m n ≡ leb (row_gap z i m + column_gap z j n) r
+pub diamond-holds : (z : Frame) (r i j m n : ℕ) → holds z (slanted (diamond r)) i j m n ≡ leb (row_gap z i m + column_gap z j n) r
 unfolding height reach
 diamond-holds z r i j m n =
     let p = row_gap z i m in
@@ -49,7 +49,7 @@ diamond-holds z r i j m n =
     (λ t. and_both (leb p r) (leb q (r - p)) (le→leb p r (omega (arith, leb→le (p + q) r t))) (le→leb q (r - p) (omega (arith, leb→le (p + q) r t))))
 
 -- "|p| ≤ h and |p| + |q| ≤ k + h"
-pub hexagon-holds : (z : Size) (k h i j m n : ℕ) → holds z (slanted (hexagon k h)) i j m n ≡ (leb (row_gap z i m) h && leb (row_gap z i m + column_gap z j n) (k + h))
+pub hexagon-holds : (z : Frame) (k h i j m n : ℕ) → holds z (slanted (hexagon k h)) i j m n ≡ (leb (row_gap z i m) h && leb (row_gap z i m + column_gap z j n) (k + h))
 unfolding height reach
 hexagon-holds z k h i j m n =
     let p = row_gap z i m in
@@ -63,7 +63,7 @@ hexagon-holds z k h i j m n =
     and_both (leb p h) (leb q ((k + h) - p)) a (le→leb q ((k + h) - p) (omega (arith, leb→le (p + q) (k + h) (and_right (leb p h) (leb (p + q) (k + h)) t)))))
 
 -- "|p| ≤ a and |q| ≤ b"
-pub rectangle-holds : (z : Size) (a b i j m n : ℕ) → holds z (rectangle a b) i j m n ≡ (leb (row_gap z i m) a && leb (column_gap z j n) b)
+pub rectangle-holds : (z : Frame) (a b i j m n : ℕ) → holds z (rectangle a b) i j m n ≡ (leb (row_gap z i m) a && leb (column_gap z j n) b)
 unfolding height reach
 rectangle-holds z a b i j m n = refl
 
@@ -77,7 +77,7 @@ unfolding pick
 sum-pick n true f = refl
 sum-pick n false f = sum-zero n
 
-module _ (z : Size) (s : Shape) (P : ℕ → ℕ → ℤ) where
+module _ (z : Frame) (s : Shape) (P : ℕ → ℕ → ℤ) where
   -- a window, row by row
   pub by_rows : (i j : ℕ) → window_sum z s P i j ≡
       sum_to z.rows (λ m. pick (leb (row_gap z i m) (height s)) (sum_to z.columns (λ n. pick (leb (column_gap z j n) (reach s (row_gap z i m))) (P m n))))

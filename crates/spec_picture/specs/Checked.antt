@@ -5,7 +5,7 @@ use Rattle.spec_picture.specs.declared.checked.CheckedPictures.{CheckedPictures}
 use Rattle.spec_picture.specs.declared.checked.CheckedSource.{CheckedSource}
 use Rattle.spec_picture.specs.declared.checked.CheckedInputs.{CheckedInputs}
 use Rattle.std.specs.Prelude.{List, ℤ}
-use Rattle.spec_picture.specs.declared.Size.{Size}
+use Rattle.spec_picture.specs.declared.Frame.{Frame}
 use Rattle.spec_picture.specs.declared.Window.{Window}
 use Rattle.spec_picture.specs.Window.{window}
 use Rattle.spec_picture.specs.Picture.{Source, Inputs, source, no_shift}
@@ -16,14 +16,14 @@ abbrev pub given : CheckedWindow → Window
 given w = window (shape_number w.shape) w.first w.second
 
 -- two pictures, with no shift and plane 0 for want of others
-abbrev pub pictures : Size → List ℤ → List ℤ → Source
+abbrev pub pictures : Frame → List ℤ → List ℤ → Source
 pictures z f g = source z f g no_shift 0
 
 abbrev pub checked_pictures : CheckedPictures → Source
-checked_pictures x = pictures x.size x.f.now x.g.now
+checked_pictures x = pictures x.frame x.f.now x.g.now
 
 abbrev pub checked_source : CheckedSource → Source
-checked_source x = source x.size x.f.now x.g.now x.shift (plane_number x.plane)
+checked_source x = source x.frame x.f.now x.g.now x.shift (plane_number x.plane)
 
 abbrev pub checked_inputs : CheckedInputs → Inputs
 checked_inputs x = record { source = checked_source x.source; window = given x.window }

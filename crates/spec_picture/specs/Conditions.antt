@@ -5,17 +5,17 @@ use Rattle.std.proofs.Math.Option.{none}
 use Rattle.spec_picture.specs.Refusal.{Check, ◌when◌, refusal}
 use Rattle.spec_picture.specs.declared.Window.{Window}
 use Rattle.spec_picture.specs.Window.{window_legal}
-use Rattle.spec_picture.specs.declared.Size.{Size}
-use Rattle.spec_picture.specs.Size.{size_legal, cells}
+use Rattle.spec_picture.specs.declared.Frame.{Frame}
+use Rattle.spec_picture.specs.Frame.{frame_legal, cells}
 use Rattle.spec_picture.specs.declared.Shift.{Shift}
 use Rattle.spec_picture.specs.Picture.{Inputs, shift_legal}
 
 -- 1, "rows or columns beyond limits"
-abbrev pub check1 : Size → Check
-check1 z = 1 when not (size_legal z)
+abbrev pub check1 : Frame → Check
+check1 z = 1 when not (frame_legal z)
 
 -- 2, "a picture's length is not rows times columns"
-abbrev pub check2 : Size → List ℤ → Check
+abbrev pub check2 : Frame → List ℤ → Check
 check2 z f = 2 when not (eqb (length f) (cells z))
 
 -- 3, "shape not 1 to 3, or window numbers other than its shape allows"
@@ -31,26 +31,26 @@ abbrev pub check5 : ℕ → Check
 check5 p = 5 when ltb 5 p
 
 -- 6, "cell outside the picture"
-abbrev pub check6 : Size → ℕ → ℕ → Check
+abbrev pub check6 : Frame → ℕ → ℕ → Check
 check6 z i j = 6 when not (ltb i z.rows && ltb j z.columns)
 
 -- 7, "position above rows, or request above rows minus position"
-abbrev pub check7 : Size → ℕ → ℕ → Check
+abbrev pub check7 : Frame → ℕ → ℕ → Check
 check7 z position request = 7 when (ltb z.rows position || ltb (z.rows - position) request)
 
 -- 8, "table, work or output area of another length"
 abbrev pub check8 : ℕ → ℕ → Check
 check8 wanted given = 8 when not (eqb given wanted)
 
--- a size and two pictures of it: 1, and 2 for each
-abbrev pub picture_checks : Size → (f g : List ℤ) → List Check
+-- a frame and two pictures of it: 1, and 2 for each
+abbrev pub picture_checks : Frame → (f g : List ℤ) → List Check
 picture_checks z f g = check1 z ∷ check2 z f ∷ check2 z g ∷ []
 
 -- demand 3: "of the row call's numbered conditions, [those that look] at them alone": 1 to 5
 abbrev pub input_checks : Inputs → List Check
 input_checks x =
     let s = x.source in
-    picture_checks s.size s.f s.g ++ (check3 x.window ∷ check4 s.shift ∷ check5 s.plane ∷ [])
+    picture_checks s.frame s.f s.g ++ (check3 x.window ∷ check4 s.shift ∷ check5 s.plane ∷ [])
 
 -- "they are accepted when .. none that looks at them alone holds"
 abbrev pub accepted : Inputs → Type 0

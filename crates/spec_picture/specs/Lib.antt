@@ -2,11 +2,11 @@ pub mod Answers
 pub mod Checked
 pub mod Conditions
 pub mod Direct
+pub mod Frame
 pub mod Given
 pub mod Offsets
 pub mod Picture
 pub mod Plane
 pub mod Refusal
 pub mod Shape
-pub mod Size
 pub mod Window

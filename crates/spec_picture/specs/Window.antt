@@ -2,8 +2,8 @@
 -- Assumes nothing.
 use Rattle.std.specs.Prelude.{ℕ, zero, suc, ◌+◌, ◌-◌, ◌*◌, min, Bool, true, false, ◌&&◌, leb, ℤ, pos, nat_abs, ◌+ℤ◌}
 use Rattle.std.specs.Int.Signed.{le_z}
-use Rattle.spec_picture.specs.declared.Size.{Size}
-use Rattle.spec_picture.specs.Size.{row_gap, column_gap}
+use Rattle.spec_picture.specs.declared.Frame.{Frame}
+use Rattle.spec_picture.specs.Frame.{row_gap, column_gap}
 use Rattle.spec_picture.specs.declared.Window.{Window}
 
 abbrev pub window : ℕ → ℤ → ℤ → Window
@@ -82,7 +82,7 @@ depth (slanted (diamond r)) q = r - q
 depth (slanted (hexagon k h)) q = min h ((k + h) - q)
 
 -- the window on the cell (i, j) holds the cell (m, n)
-abbrev pub holds : Size → Shape → (i j m n : ℕ) → Bool
+abbrev pub holds : Frame → Shape → (i j m n : ℕ) → Bool
 holds z s i j m n = leb (row_gap z i m) (height s) && leb (column_gap z j n) (reach s (row_gap z i m))
 
 -- how many cells a shape has before clipping: the middle row, and twice the rows from 1 to the height

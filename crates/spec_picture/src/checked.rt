@@ -1,11 +1,11 @@
 // Inputs that checks have passed: what the checks found stands in their types.
 ghost use Rattle.std.specs.Prelude.{◌≡◌, T, length};
-ghost use Rattle.spec_picture.specs.Size.{size_legal, cells};
+ghost use Rattle.spec_picture.specs.Frame.{frame_legal, cells};
 ghost use Rattle.spec_picture.specs.Window.{window, window_legal};
 ghost use Rattle.spec_picture.specs.Shape.{shape_number};
 ghost use Rattle.spec_picture.specs.Picture.{shift_legal, Levels};
 
-use crate::{Plane, Shape, Shift, Size};
+use crate::{Frame, Plane, Shape, Shift};
 
 // A legal window: its shape, and its two numbers as the call gave them, which `legal_windows` and `shape` alone read. No enum with the numbers of each shape: `shape`
 // would tell three cases apart as it does now, and `given`, by which the contracts speak of a window, three more.
@@ -17,31 +17,31 @@ pub struct CheckedWindow {
     pub ghost legal: { T (window_legal (window (shape_number shape) first second)) },
 }
 
-// Two pictures of a legal size.
+// Two pictures of a legal frame.
 #[derive(Clone, Copy)]
 pub struct CheckedPictures<'a> {
-    pub size: Size,
+    pub frame: Frame,
     pub f: &'a [i16],
     pub g: &'a [i16],
-    pub ghost legal: { T (size_legal size) },
-    pub ghost length_f: { length f.now ≡ cells size },
-    pub ghost length_g: { length g.now ≡ cells size },
+    pub ghost legal: { T (frame_legal frame) },
+    pub ghost length_f: { length f.now ≡ cells frame },
+    pub ghost length_g: { length g.now ≡ cells frame },
     pub ghost levels_f: { Levels f.now },
     pub ghost levels_g: { Levels g.now },
 }
 
-// Two pictures of a legal size, a legal shift, and a plane. The fields of `CheckedPictures` once more, and no such field: every function reads them, and would reach
-// through one more name. Nor is a legal size a type of its own beside `Size`, which the definitions take.
+// Two pictures of a legal frame, a legal shift, and a plane. The fields of `CheckedPictures` once more, and no such field: every function reads them, and would reach
+// through one more name. Nor is a legal frame a type of its own beside `Frame`, which the definitions take.
 #[derive(Clone, Copy)]
 pub struct CheckedSource<'a> {
-    pub size: Size,
+    pub frame: Frame,
     pub f: &'a [i16],
     pub g: &'a [i16],
     pub shift: Shift,
     pub plane: Plane,
-    pub ghost legal: { T (size_legal size) },
-    pub ghost length_f: { length f.now ≡ cells size },
-    pub ghost length_g: { length g.now ≡ cells size },
+    pub ghost legal: { T (frame_legal frame) },
+    pub ghost length_f: { length f.now ≡ cells frame },
+    pub ghost length_g: { length g.now ≡ cells frame },
     pub ghost levels_f: { Levels f.now },
     pub ghost levels_g: { Levels g.now },
     pub ghost shift_within: { T (shift_legal shift) },
@@ -62,10 +62,10 @@ impl<'a> CheckedInputs<'a> {
 
     // The same inputs with another plane. Field by field, since a literal of a struct with ghost fields takes no `..`.
     pub fn on_plane(&self, plane: Plane) -> CheckedInputs<'a>
-        ensures { checked_inputs result ≡ inputs self.now.source.size self.now.source.f.now self.now.source.g.now (given self.now.window) self.now.source.shift (plane_number plane) }
+        ensures { checked_inputs result ≡ inputs self.now.source.frame self.now.source.f.now self.now.source.g.now (given self.now.window) self.now.source.shift (plane_number plane) }
     {
         let source = CheckedSource {
-            size: self.source.size,
+            frame: self.source.frame,
             f: self.source.f,
             g: self.source.g,
             shift: self.source.shift,
@@ -78,11 +78,11 @@ impl<'a> CheckedInputs<'a> {
     }
 }
 
-// A number for each cell of a picture of a legal size: a table, whatever it holds.
+// A number for each cell of a picture of a legal frame: a table, whatever it holds.
 #[derive(Clone, Copy)]
 pub struct CheckedTable<'a> {
-    pub size: Size,
+    pub frame: Frame,
     pub numbers: &'a [i64],
-    pub ghost legal: { T (size_legal size) },
-    pub ghost full: { length numbers.now ≡ cells size },
+    pub ghost legal: { T (frame_legal frame) },
+    pub ghost full: { length numbers.now ≡ cells frame },
 }

@@ -14,7 +14,7 @@ pub use shape::Shape;
 
 // "A picture has 1 to 256 rows and 1 to 1,024 columns."
 #[derive(Clone, Copy)]
-pub struct Size {
+pub struct Frame {
     pub rows: usize,
     pub columns: usize,
 }
@@ -42,10 +42,10 @@ pub struct Shift {
     pub right: i32,
 }
 
-// Two pictures of a size, a shift and a plane: what building a table takes. The plane is a number here, since a call may give any.
+// Two pictures of a frame, a shift and a plane: what building a table takes. The plane is a number here, since a call may give any.
 #[derive(Clone, Copy)]
 pub struct Source<'a> {
-    pub size: Size,
+    pub frame: Frame,
     pub f: &'a [i16],
     pub g: &'a [i16],
     pub shift: Shift,

@@ -11,7 +11,7 @@ use lib.ListN.{length}
 use lib.IntN.{ℤ}
 use Rattle.numbers.proofs.Grids.{length-tabulate}
 use Rattle.spec_picture.specs.Refusal.{refused, answered, refusal, outcome, numbers_of}
-use Rattle.spec_picture.specs.declared.Size.{Size}
+use Rattle.spec_picture.specs.declared.Frame.{Frame}
 use Rattle.spec_picture.specs.Window.{Shape}
 use Rattle.spec_picture.specs.Picture.{Inputs}
 use Rattle.spec_picture.specs.Conditions.{input_checks, check7, check8, accepted}
@@ -48,18 +48,18 @@ zero-keeps x position work output ok e =
     rw (e, row_result, z) (ap (λ (l : List ℤ). record { answer = answered 0; position = position; work = work; output = l }) (sym nothing))
   where
     c7 : Bool
-    c7 = ltb x.source.size.rows position || ltb (x.source.size.rows - position) 0
+    c7 = ltb x.source.frame.rows position || ltb (x.source.frame.rows - position) 0
 
     c8 : Bool
-    c8 = not (eqb (length work) x.source.size.columns)
+    c8 = not (eqb (length work) x.source.frame.columns)
 
     nothing : output ≡ []
     nothing =
-        let last = check8 (0 * x.source.size.columns) (length output) ∷ [] in
-        let e7 = sym (pass_all (input_checks x) (check7 x.source.size position 0 ∷ check8 x.source.size.columns (length work) ∷ last) ok) ∙ e in
-        let e8 = none_rest 7 c7 (check8 x.source.size.columns (length work) ∷ last) e7 in
+        let last = check8 (0 * x.source.frame.columns) (length output) ∷ [] in
+        let e7 = sym (pass_all (input_checks x) (check7 x.source.frame position 0 ∷ check8 x.source.frame.columns (length work) ∷ last) ok) ∙ e in
+        let e8 = none_rest 7 c7 (check8 x.source.frame.columns (length work) ∷ last) e7 in
         let e8' = none_rest 8 c8 last e8 in
-        let l = eqb→eq (length output) (0 * x.source.size.columns) (of-not (eqb (length output) (0 * x.source.size.columns)) (none-head 8 (not (eqb (length output) (0 * x.source.size.columns))) [] e8')) in
+        let l = eqb→eq (length output) (0 * x.source.frame.columns) (of-not (eqb (length output) (0 * x.source.frame.columns)) (none-head 8 (not (eqb (length output) (0 * x.source.frame.columns))) [] e8')) in
         empty-list output (omega arith)
 
 -- "Checks run in number order, each where the call has that input": 8 for the work area and for the output area
@@ -68,18 +68,18 @@ unfolding numbers_of
 row-order x position request work output = refl
 
 -- "At position 0 the work area is not read."
-pub start-unread : (z : Size) (P : ℕ → ℕ → ℤ) (s : Shape) (work work' : List ℤ) → work_after z P s 0 work ≡ work_after z P s 0 work'
+pub start-unread : (z : Frame) (P : ℕ → ℕ → ℤ) (s : Shape) (work work' : List ℤ) → work_after z P s 0 work ≡ work_after z P s 0 work'
 unfolding work_after
 start-unread z P s work work' = refl
 
 -- the work area keeps its length
-pub work-length : (z : Size) (P : ℕ → ℕ → ℤ) (s : Shape) (position : ℕ) (work : List ℤ) → length (work_after z P s position work) ≡ z.columns
+pub work-length : (z : Frame) (P : ℕ → ℕ → ℤ) (s : Shape) (position : ℕ) (work : List ℤ) → length (work_after z P s position work) ≡ z.columns
 unfolding work_after
 work-length z P s zero work = length-tabulate z.columns (work_value z P s 0)
 work-length z P s (suc i) work = length-tabulate z.columns _
 
 -- ---- n rows and then m rows are n + m rows
-module _ (z : Size) (P : ℕ → ℕ → ℤ) (s : Shape) where
+module _ (z : Frame) (P : ℕ → ℕ → ℤ) (s : Shape) where
   pub strip-join : (p n m : ℕ) (work : List ℤ) →
       strip z P s p (n + m) work ≡
       record { work = (strip z P s (p + n) m (strip z P s p n work).work).work; output = (strip z P s p n work).output ++ (strip z P s (p + n) m (strip z P s p n work).work).output }

@@ -8,10 +8,10 @@ use lib.Dec.{leb, ltb, leb→le, ltb→lt, le→leb, lt→ltb}
 use lib.IntN.{ℤ, pos}
 use Rattle.numbers.specs.Sum.{pick}
 use Rattle.numbers.proofs.Sums.{pick_yes, pick_no}
-use Rattle.spec_picture.specs.declared.Size.{Size}
+use Rattle.spec_picture.specs.declared.Frame.{Frame}
 use Rattle.spec_rows.specs.Rows.{cell_below, cell_above}
 
-module _ (z : Size) (P : ℕ → ℕ → ℤ) where
+module _ (z : Frame) (P : ℕ → ℕ → ℤ) where
   -- no row is d rows above one of the first d
   pub none_above : (i d n : ℕ) → i < d → cell_above z P i d n ≡ pos 0
   unfolding cell_above

@@ -9,7 +9,7 @@ use Rattle.numbers.specs.Grid.{tabulate}
 use Rattle.numbers.specs.Wrap.{wrap}
 use Rattle.spec_picture.specs.Refusal.{refused, answered, refusal}
 use Rattle.spec_picture.specs.declared.Window.{Window}
-use Rattle.spec_picture.specs.Size.{size, size_legal, in_range}
+use Rattle.spec_picture.specs.Frame.{frame, frame_legal, in_range}
 use Rattle.spec_picture.specs.Window.{window, rectangle_legal, diamond_legal, window_legal, shape_of, width, depth}
 use Rattle.spec_picture.specs.Picture.{no_shift, shift_legal, inputs, counts, plane_value, plane_at}
 use Rattle.spec_rows.specs.Rows.{column_sum, cell_below, cell_above, enter_leave, work_value, work_change, work_after, output_row, strip, RowOutcome, row_result, row_call}
@@ -19,7 +19,7 @@ abbrev f : List ℤ
 f = pos 1 ∷ pos 2 ∷ pos 3 ∷ pos 4 ∷ []
 
 abbrev call : Window → (position request : ℕ) → (work output : List ℤ) → RowOutcome
-call w = row_call (inputs (size 2 2) f f w no_shift 1)
+call w = row_call (inputs (frame 2 2) f f w no_shift 1)
 
 -- a rectangle of one row and three columns, and a diamond
 abbrev wide : Window
@@ -37,7 +37,7 @@ pub one-row :
     (call wide 0 1 (pos 70 ∷ pos 80 ∷ []) (pos 0 ∷ pos 0 ∷ []) ≡ granted 1 (pos 1 ∷ pos 2 ∷ []) (pos 3 ∷ pos 3 ∷ [])) ×
     (call wide 1 1 (pos 70 ∷ pos 80 ∷ []) (pos 0 ∷ pos 0 ∷ []) ≡ granted 2 (pos 72 ∷ pos 82 ∷ []) (pos 154 ∷ pos 154 ∷ [])) ×
     (call diamond1 1 1 (pos 9223372036854775807 ∷ pos 80 ∷ []) (pos 0 ∷ pos 0 ∷ []) ≡ granted 2 (negsuc 9223372036854775806 ∷ pos 82 ∷ []) (negsuc 9223372036854775806 ∷ pos 82 ∷ []))
-unfolding row_call row_result strip output_row work_after work_change work_value enter_leave cell_above cell_below column_sum plane_at plane_value counts in_range shape_of width depth window_legal rectangle_legal diamond_legal size_legal shift_legal refusal wrap tabulate sum_to pick
+unfolding row_call row_result strip output_row work_after work_change work_value enter_leave cell_above cell_below column_sum plane_at plane_value counts in_range shape_of width depth window_legal rectangle_legal diamond_legal frame_legal shift_legal refusal wrap tabulate sum_to pick
 one-row = (refl, refl, refl)
 
 -- a work area or an output area of another length is 8, and the call changes nothing at all
@@ -45,10 +45,10 @@ pub other-lengths :
     (call wide 1 1 (pos 70 ∷ []) (pos 0 ∷ pos 0 ∷ []) ≡ record { answer = refused 8; position = 1; work = pos 70 ∷ []; output = pos 0 ∷ pos 0 ∷ [] }) ×
     (call wide 1 1 (pos 70 ∷ pos 80 ∷ []) (pos 0 ∷ []) ≡ record { answer = refused 8; position = 1; work = pos 70 ∷ pos 80 ∷ []; output = pos 0 ∷ [] }) ×
     (call wide 0 0 (pos 70 ∷ pos 80 ∷ []) (pos 0 ∷ []) ≡ record { answer = refused 8; position = 0; work = pos 70 ∷ pos 80 ∷ []; output = pos 0 ∷ [] })
-unfolding row_call row_result window_legal rectangle_legal size_legal shift_legal refusal
+unfolding row_call row_result window_legal rectangle_legal frame_legal shift_legal refusal
 other-lengths = (refl, refl, refl)
 
 -- a request past the last row is 7, before an output area of another length, 8
 pub past-the-last : call wide 1 2 (pos 70 ∷ pos 80 ∷ []) [] ≡ record { answer = refused 7; position = 1; work = pos 70 ∷ pos 80 ∷ []; output = [] }
-unfolding row_call row_result window_legal rectangle_legal size_legal shift_legal refusal
+unfolding row_call row_result window_legal rectangle_legal frame_legal shift_legal refusal
 past-the-last = refl

@@ -16,8 +16,8 @@ use Rattle.numbers.proofs.Sums.{sum-add, sum-cong, near_step, sum_bound, pick-bo
 use Rattle.numbers.proofs.Grids.{tabulate-cong, get_d_tabulate}
 use Rattle.numbers.proofs.Wraps.{wrap-small}
 use Rattle.spec_picture.specs.Window.{Shape, rectangle, slanted, width, depth}
-use Rattle.spec_picture.specs.declared.Size.{Size}
-use Rattle.spec_picture.specs.Size.{row_gap, column_gap}
+use Rattle.spec_picture.specs.declared.Frame.{Frame}
+use Rattle.spec_picture.specs.Frame.{row_gap, column_gap}
 use Rattle.spec_picture.specs.Direct.{window_sum}
 use Rattle.spec_picture.proofs.Refusals.{InLimits}
 use Rattle.spec_picture.proofs.Windows.{by-columns, window-bound}
@@ -28,7 +28,7 @@ unfolding pick
 pick-add true x y = refl
 pick-add false x y = refl
 
-module _ (z : Size) (P : ℕ → ℕ → ℤ) where
+module _ (z : Frame) (P : ℕ → ℕ → ℤ) where
   -- a column's sum, one row further down: a cell enters and a cell leaves
   pub column-step : (a i n : ℕ) → column_sum z P a (suc i) n ≡ column_sum z P a i n +ℤ enter_leave z P i a n
   unfolding column_sum enter_leave cell_below cell_above

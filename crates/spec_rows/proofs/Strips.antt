@@ -11,13 +11,13 @@ use lib.Seq.{take_all, take_at, length-take-le}
 use lib.IntN.{ℤ}
 use borrow.Rule.Slice.PartMut.{put_mid, post_of}
 use Rattle.numbers.proofs.Writes.{part_length}
-use Rattle.spec_picture.specs.declared.Size.{Size}
+use Rattle.spec_picture.specs.declared.Frame.{Frame}
 use Rattle.spec_picture.specs.Window.{Shape, rectangle, slanted, is_rectangle}
 use Rattle.spec_rows.specs.Rows.{Strip, strip, Advanced, work_after, output_row}
 use Rattle.spec_rows.proofs.Calls.{strip-more}
 
 -- the output row of a window that is no rectangle is the work area
-pub output-slanted : (z : Size) (s : Shape) (work out : List ℤ) → is_rectangle s ≡ false → out ≡ work → out ≡ output_row z s work
+pub output-slanted : (z : Frame) (s : Shape) (work out : List ℤ) → is_rectangle s ≡ false → out ≡ work → out ≡ output_row z s work
 unfolding output_row
 output-slanted z (rectangle a b) work out e o = absurd (true≢false e)
 output-slanted z (slanted s) work out e o = o
@@ -28,7 +28,7 @@ put-behind start n out part h e =
     ap (take (start + n)) (sym (append_assoc (take start out) part (post_of start n out)))
     ∙ take_at (take start out ++ part) (post_of start n out) (start + n) (length-append (take start out) part ∙ ap₂ (λ (a b : ℕ). a + b) (length-take-le start out h) e)
 
-module _ (z : Size) (P : ℕ → ℕ → ℤ) (s : Shape) (position : ℕ) (start : List ℤ) where
+module _ (z : Frame) (P : ℕ → ℕ → ℤ) (s : Shape) (position : ℕ) (start : List ℤ) where
   -- k rows are done: the work area is theirs, and so is the front of the output area
   pub record Partly (k : ℕ) (work out : List ℤ) : Type 0 where
     pub work_is : work ≡ (strip z P s position k start).work
@@ -82,7 +82,7 @@ two-parts columns end out row rest h e er es =
     ∙ ap (λ (l : List ℤ). l ++ rest) (ap (λ (m : ℕ). take columns (put_mid 0 m out row)) none ∙ ap (λ (m : ℕ). take m (put_mid 0 columns out row)) from ∙ put-behind 0 columns out row (omega arith) er)
 
 -- the first row of a call, and those behind it
-pub first-and-rest : (z : Size) (P : ℕ → ℕ → ℤ) (s : Shape) (position m n : ℕ) (start next row work rest : List ℤ) → n ≡ suc m →
+pub first-and-rest : (z : Frame) (P : ℕ → ℕ → ℤ) (s : Shape) (position m n : ℕ) (start next row work rest : List ℤ) → n ≡ suc m →
     next ≡ work_after z P s position start → row ≡ output_row z s next → Advanced (strip z P s (suc position) m next) work rest → Advanced (strip z P s position n start) work (row ++ rest)
 unfolding strip
 first-and-rest z P s position m n start next row work rest e en er a =

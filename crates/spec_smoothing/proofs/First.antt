@@ -11,7 +11,7 @@ use lib.IntN.{ℤ, pos}
 use Rattle.spec_picture.specs.Refusal.{numbers_of}
 use Rattle.spec_picture.specs.declared.Cell.{Cell}
 use Rattle.spec_picture.specs.declared.Shift.{Shift}
-use Rattle.spec_picture.specs.declared.Size.{Size}
+use Rattle.spec_picture.specs.declared.Frame.{Frame}
 use Rattle.spec_picture.specs.declared.Window.{Window}
 use Rattle.spec_picture.specs.Picture.{Inputs}
 use Rattle.spec_statistics.specs.declared.Sums.{Sums}
@@ -87,11 +87,11 @@ steady-when z = go (no_cell z) (is_zero (Vf z))
     go false false = refl
 
 -- "the first cell in row order whose voice answer is Steady, or None"
-pub steady-found : (x : Inputs) → FoundCell (λ i j. is_steady (voice (six_sums x i j))) x.source.size.columns 0 x.source.size.rows (first_steady x)
+pub steady-found : (x : Inputs) → FoundCell (λ i j. is_steady (voice (six_sums x i j))) x.source.frame.columns 0 x.source.frame.rows (first_steady x)
 unfolding first_steady
-steady-found x = find-cell (λ i j. is_steady (voice (six_sums x i j))) x.source.size.columns 0 x.source.size.rows
+steady-found x = find-cell (λ i j. is_steady (voice (six_sums x i j))) x.source.frame.columns 0 x.source.frame.rows
 
 -- "Checks run in number order, each where the call has that input"
-pub steady-order : (z : Size) (f g : List ℤ) (w : Window) (d : Shift) → numbers_of (steady_checks z f g w d) ≡ 1 ∷ 2 ∷ 2 ∷ 3 ∷ 4 ∷ []
+pub steady-order : (z : Frame) (f g : List ℤ) (w : Window) (d : Shift) → numbers_of (steady_checks z f g w d) ≡ 1 ∷ 2 ∷ 2 ∷ 3 ∷ 4 ∷ []
 unfolding numbers_of
 steady-order z f g w d = refl

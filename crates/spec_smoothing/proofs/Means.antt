@@ -21,8 +21,8 @@ use Rattle.numbers.proofs.Grids.{get_or-grid}
 use Rattle.numbers.proofs.Rounds.{nearest-law, nearest-within}
 use Rattle.spec_picture.specs.Refusal.{refused, answered, refusal, numbers_of}
 use Rattle.spec_picture.proofs.Refusals.{filling-none, filling-some, none-head, none_rest}
-use Rattle.spec_picture.specs.declared.Size.{Size}
-use Rattle.spec_picture.specs.Size.{size, size_legal, in_range}
+use Rattle.spec_picture.specs.declared.Frame.{Frame}
+use Rattle.spec_picture.specs.Frame.{frame, frame_legal, in_range}
 use Rattle.spec_picture.specs.declared.Window.{Window}
 use Rattle.spec_picture.specs.Window.{window, rectangle_legal, window_legal, Shape, shape_of, height, reach, holds}
 use Rattle.spec_picture.specs.Picture.{Levels, Inputs, counts, plane_value, plane_at, level_of}
@@ -34,7 +34,7 @@ use Rattle.spec_statistics.proofs.Bounds.{possible-has}
 use Rattle.spec_statistics.proofs.Possible.{sums-possible}
 use Rattle.spec_smoothing.specs.Smoothing.{alone, smoothed, smooth_checks, smooth_call}
 
-module _ (z : Size) (f : List ℤ) (w : Window) where
+module _ (z : Frame) (f : List ℤ) (w : Window) where
   abbrev x : Inputs
   x = alone z f w
 
@@ -125,16 +125,16 @@ module _ (z : Size) (f : List ℤ) (w : Window) where
         ends-level (nearest s.s (count s)) r.0 r.1
 
 -- what smoothing writes, cell by cell
-pub smoothed-at : (z : Size) (f : List ℤ) (w : Window) (i j : ℕ) → i < z.rows → j < z.columns → get_or (smoothed z f w) (i * z.columns + j) (pos 0) ≡ mean (six_sums (alone z f w) i j)
+pub smoothed-at : (z : Frame) (f : List ℤ) (w : Window) (i j : ℕ) → i < z.rows → j < z.columns → get_or (smoothed z f w) (i * z.columns + j) (pos 0) ≡ mean (six_sums (alone z f w) i j)
 unfolding smoothed
 smoothed-at z f w i j hi hj = get_or-grid z.rows z.columns i j (λ i j. mean (six_sums (alone z f w) i j)) (pos 0) hi hj
 
 -- what the checks of smoothing leave
-taken-window : (z : Size) (f : List ℤ) (w : Window) (output : List ℤ) → refusal (smooth_checks z f w output) ≡ none → T (window_legal w)
+taken-window : (z : Frame) (f : List ℤ) (w : Window) (output : List ℤ) → refusal (smooth_checks z f w output) ≡ none → T (window_legal w)
 taken-window z f w output e = of-not (window_legal w) (none-head 3 (not (window_legal w)) _ (none_rest 2 _ _ (none_rest 1 _ _ e)))
 
 -- the public mean answers at every cell of a picture that is taken, and each number that smoothing writes is its answer: never Empty, since a cell counts itself
-pub mean-smoothed : (z : Size) (f : List ℤ) (w : Window) (output : List ℤ) → Levels f → refusal (smooth_checks z f w output) ≡ none → (i j : ℕ) → i < z.rows → j < z.columns →
+pub mean-smoothed : (z : Frame) (f : List ℤ) (w : Window) (output : List ℤ) → Levels f → refusal (smooth_checks z f w output) ≡ none → (i j : ℕ) → i < z.rows → j < z.columns →
     mean_call (six_sums (alone z f w) i j) ≡ answered (some (get_or (smoothed z f w) (i * z.columns + j) (pos 0)))
 unfolding mean_call
 mean-smoothed z f w output lv e i j hi hj =
@@ -145,23 +145,23 @@ mean-smoothed z f w output lv e i j hi hj =
     ∙ ap (λ (m : ℤ). answered (some m)) (sym (smoothed-at z f w i j hi hj))
 
 -- a call that is taken writes the means; one that is refused keeps the output
-pub smooth-writes : (z : Size) (f : List ℤ) (w : Window) (output : List ℤ) → refusal (smooth_checks z f w output) ≡ none →
+pub smooth-writes : (z : Frame) (f : List ℤ) (w : Window) (output : List ℤ) → refusal (smooth_checks z f w output) ≡ none →
     smooth_call z f w output ≡ record { answer = answered tt; area = smoothed z f w }
 unfolding smooth_call
 smooth-writes z f w output e = filling-none _ _ _ e
 
-pub smooth-keeps : (z : Size) (f : List ℤ) (w : Window) (output : List ℤ) (n : ℕ) → refusal (smooth_checks z f w output) ≡ some n →
+pub smooth-keeps : (z : Frame) (f : List ℤ) (w : Window) (output : List ℤ) (n : ℕ) → refusal (smooth_checks z f w output) ≡ some n →
     smooth_call z f w output ≡ record { answer = refused n; area = output }
 unfolding smooth_call
 smooth-keeps z f w output n e = filling-some _ _ _ n e
 
 -- "Checks run in number order, each where the call has that input"
-pub smooth-order : (z : Size) (f : List ℤ) (w : Window) (output : List ℤ) → numbers_of (smooth_checks z f w output) ≡ 1 ∷ 2 ∷ 3 ∷ 8 ∷ []
+pub smooth-order : (z : Frame) (f : List ℤ) (w : Window) (output : List ℤ) → numbers_of (smooth_checks z f w output) ≡ 1 ∷ 2 ∷ 3 ∷ 8 ∷ []
 unfolding numbers_of
 smooth-order z f w output = refl
 
 -- "a wrong length of it is 8": no room for the mean of a picture of one cell, and room for two
 pub other_length :
-    (refusal (smooth_checks (size 1 1) (pos 7 ∷ []) (window 1 (pos 0) (pos 0)) []) ≡ some 8) × (refusal (smooth_checks (size 1 1) (pos 7 ∷ []) (window 1 (pos 0) (pos 0)) (pos 0 ∷ pos 0 ∷ [])) ≡ some 8)
-unfolding refusal size_legal window_legal rectangle_legal
+    (refusal (smooth_checks (frame 1 1) (pos 7 ∷ []) (window 1 (pos 0) (pos 0)) []) ≡ some 8) × (refusal (smooth_checks (frame 1 1) (pos 7 ∷ []) (window 1 (pos 0) (pos 0)) (pos 0 ∷ pos 0 ∷ [])) ≡ some 8)
+unfolding refusal frame_legal window_legal rectangle_legal
 other_length = (refl, refl)

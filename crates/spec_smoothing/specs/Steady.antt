@@ -4,9 +4,9 @@ use Rattle.std.specs.Prelude.{ℕ, zero, suc, Bool, true, false, List, [], ◌�
 use Rattle.std.proofs.Math.Option.{Option, none, some}
 use Rattle.spec_picture.specs.Refusal.{Outcome, Check, refusal, outcome}
 use Rattle.spec_picture.specs.declared.Window.{Window}
-use Rattle.spec_picture.specs.declared.Size.{Size}
+use Rattle.spec_picture.specs.declared.Frame.{Frame}
 use Rattle.spec_picture.specs.declared.Cell.{Cell}
-use Rattle.spec_picture.specs.Size.{cell}
+use Rattle.spec_picture.specs.Frame.{cell}
 use Rattle.spec_picture.specs.declared.Shift.{Shift}
 use Rattle.spec_picture.specs.Picture.{Inputs, inputs}
 use Rattle.spec_picture.specs.Conditions.{picture_checks, check3, check4}
@@ -34,12 +34,12 @@ find_cell test columns i (suc n) = or_else i (find_column (test i) 0 columns) (f
 
 -- the first steady cell
 unfoldable pub first_steady : Inputs → Option Cell
-first_steady x = find_cell (λ i j. is_steady (voice (six_sums x i j))) x.source.size.columns 0 x.source.size.rows
+first_steady x = find_cell (λ i j. is_steady (voice (six_sums x i j))) x.source.frame.columns 0 x.source.frame.rows
 
 -- 1 to 4: the inputs' checks but the plane's
-abbrev pub steady_checks : Size → (f g : List ℤ) → Window → Shift → List Check
+abbrev pub steady_checks : Frame → (f g : List ℤ) → Window → Shift → List Check
 steady_checks z f g w d = picture_checks z f g ++ (check3 w ∷ check4 d ∷ [])
 
 -- the inputs have plane 0 for want of one; `six_sums` takes its own
-unfoldable pub steady_call : Size → (f g : List ℤ) → Window → Shift → Outcome (Option Cell)
+unfoldable pub steady_call : Frame → (f g : List ℤ) → Window → Shift → Outcome (Option Cell)
 steady_call z f g w d = outcome (refusal (steady_checks z f g w d)) (first_steady (inputs z f g w d 0))

@@ -13,7 +13,7 @@ use Rattle.numbers.proofs.Laws.{add-nonneg, sub-of-le}
 use Rattle.numbers.proofs.Magnitudes.{size-add}
 use Rattle.numbers.proofs.Sums.{near-bound, pick-bound}
 use Rattle.spec_picture.specs.Window.{window_legal, shape_of, height, reach, holds}
-use Rattle.spec_picture.specs.Size.{row_gap, column_gap}
+use Rattle.spec_picture.specs.Frame.{row_gap, column_gap}
 use Rattle.spec_picture.specs.Picture.{Levels, Inputs, counts, plane_value, plane_at, level_of, other_of}
 use Rattle.spec_picture.specs.Direct.{window_sum, direct_sum}
 use Rattle.spec_picture.proofs.Windows.{small, by_rows}
@@ -111,16 +111,16 @@ pick-twice false c x = refl
 
 module _ (x : Inputs) (hf : Levels x.source.f) (hg : Levels x.source.g) (i j : ℕ) where
   abbrev at : ℕ → ℕ → Sums
-  at m n = one (holds x.source.size (shape_of x.window) i j m n && counts x.source m n) (level_of x.source m n) (other_of x.source m n)
+  at m n = one (holds x.source.frame (shape_of x.window) i j m n && counts x.source m n) (level_of x.source m n) (other_of x.source m n)
 
-  sums-are : total x.source.size.rows (λ m. total x.source.size.columns (at m)) ≡ six_sums x i j
+  sums-are : total x.source.frame.rows (λ m. total x.source.frame.columns (at m)) ≡ six_sums x i j
   unfolding direct_sum window_sum plane_at plane_value counts
   sums-are = simp pick-twice
 
   pub sums-fair : Fair (six_sums x i j)
   sums-fair = subst Fair sums-are
-      (fair-total x.source.size.rows (λ m. total x.source.size.columns (at m))
-      (λ m. fair-total x.source.size.columns (at m) (λ n. fair-one (holds x.source.size (shape_of x.window) i j m n && counts x.source m n) (level_of x.source m n) (other_of x.source m n) (level-bound x.source hf hg m n) (other-bound x.source hf hg m n))))
+      (fair-total x.source.frame.rows (λ m. total x.source.frame.columns (at m))
+      (λ m. fair-total x.source.frame.columns (at m) (λ n. fair-one (holds x.source.frame (shape_of x.window) i j m n && counts x.source m n) (level_of x.source m n) (other_of x.source m n) (level-bound x.source hf hg m n) (other-bound x.source hf hg m n))))
 
   ones : (m n : ℕ) → nat_abs (plane_at (on_plane x 0).source m n) ≤ 1
   unfolding plane_at plane_value counts
@@ -133,11 +133,11 @@ module _ (x : Inputs) (hf : Levels x.source.f) (hg : Levels x.source.g) (i j : �
       let s = shape_of x.window in
       let k = small x.window t in
       let P = plane_at (on_plane x 0).source in
-      rw (by_rows x.source.size s P i j)
+      rw (by_rows x.source.frame s P i j)
       (omega (
         arith,
-        near-bound x.source.size.rows i (height s) 255 (λ m. sum_to x.source.size.columns (λ n. pick (leb (column_gap x.source.size j n) (reach s (row_gap x.source.size i m))) (P m n)))
-            (λ m. omega (arith, near-bound x.source.size.columns j (reach s (row_gap x.source.size i m)) 1 (P m) (λ n. ones m n), k.narrow (row_gap x.source.size i m))),
+        near-bound x.source.frame.rows i (height s) 255 (λ m. sum_to x.source.frame.columns (λ n. pick (leb (column_gap x.source.frame j n) (reach s (row_gap x.source.frame i m))) (P m n)))
+            (λ m. omega (arith, near-bound x.source.frame.columns j (reach s (row_gap x.source.frame i m)) 1 (P m) (λ n. ones m n), k.narrow (row_gap x.source.frame i m))),
         k.low,
       ))
 

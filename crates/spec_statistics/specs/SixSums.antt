@@ -9,7 +9,7 @@ use Rattle.spec_statistics.specs.declared.Sums.{Sums}
 
 -- the inputs with another plane
 abbrev pub on_plane : Inputs → ℕ → Inputs
-on_plane x k = inputs x.source.size x.source.f x.source.g x.window x.source.shift k
+on_plane x k = inputs x.source.frame x.source.f x.source.g x.window x.source.shift k
 
 -- "six sums N, S, T, A, B, P (planes 0 to 5)": the six direct sums at the cell (i, j)
 abbrev pub six_sums : Inputs → (i j : ℕ) → Sums

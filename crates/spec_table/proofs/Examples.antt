@@ -9,9 +9,9 @@ use lib.IntN.{ℤ, pos, negsuc, ◌+ℤ◌, ◌-ℤ◌}
 use Rattle.numbers.specs.Sum.{sum_to, pick}
 use Rattle.numbers.specs.Wrap.{wrap}
 use Rattle.numbers.proofs.Linear.{any, sums, ring}
-use Rattle.spec_picture.specs.declared.Size.{Size}
+use Rattle.spec_picture.specs.declared.Frame.{Frame}
 use Rattle.spec_picture.specs.declared.Window.{Window}
-use Rattle.spec_picture.specs.Size.{size}
+use Rattle.spec_picture.specs.Frame.{frame}
 use Rattle.spec_picture.specs.Window.{window, shape_of, height, reach}
 use Rattle.spec_table.specs.Table.{corner, four_corners, read_shape, read_table}
 
@@ -22,7 +22,7 @@ no-columns : (a b : ℤ) → a -ℤ b -ℤ a +ℤ b ≡ pos 0
 no-columns a b = ring (search (sums, any a, any b)) (omega arith)
 
 -- "so a rectangle wholly outside gives 0", whatever the table holds
-module _ (z : Size) (t : List ℤ) where
+module _ (z : Frame) (t : List ℤ) where
   same_row : (x y v : ℕ) → 1 ≤ z.rows → z.rows ≤ x → z.rows ≤ y → corner z t x v ≡ corner z t y v
   unfolding corner
   same_row zero y v h k l = absurd (omega arith)
@@ -65,7 +65,7 @@ abbrev large : List ℤ
 large = pos 0 ∷ negsuc 0 ∷ pos 0 ∷ pos 9223372036854775807 ∷ []
 
 abbrev sum : List ℤ → Window → (i j : ℕ) → ℤ
-sum t w i j = read_table (size 2 2) t w i j
+sum t w i j = read_table (frame 2 2) t w i j
 
 -- "that same corner formula, with sums that wrap at 64 bits": one cell, a rectangle past the border, a diamond, and a sum past 2^63 - 1
 pub foreign-sums :

@@ -21,8 +21,8 @@ use Rattle.spec_picture.specs.Refusal.{answered, refusal, numbers_of}
 use Rattle.numbers.proofs.Tests.{not-of}
 use Rattle.spec_picture.specs.declared.Window.{Window}
 use Rattle.spec_picture.specs.Window.{Shape, rectangle, slanted, window_legal, shape_of, height, reach}
-use Rattle.spec_picture.specs.declared.Size.{Size}
-use Rattle.spec_picture.specs.Size.{row_gap, column_gap, cells, size_legal}
+use Rattle.spec_picture.specs.declared.Frame.{Frame}
+use Rattle.spec_picture.specs.Frame.{row_gap, column_gap, cells, frame_legal}
 use Rattle.spec_picture.specs.Picture.{Levels, Source, Inputs, plane_at, shift_legal}
 use Rattle.spec_picture.specs.Conditions.{accepted}
 use Rattle.spec_picture.specs.Direct.{window_sum, direct_sum}
@@ -38,7 +38,7 @@ prefix P x y = sum_to x (λ m. sum_to y (λ n. P m n))
 abbrev sum-atom : (n : ℕ) (f : ℕ → ℤ) → Diff (sum_to n f)
 sum-atom n f = any (sum_to n f)
 
-module _ (z : Size) (P : ℕ → ℕ → ℤ) (lim : InLimits z) where
+module _ (z : Frame) (P : ℕ → ℕ → ℤ) (lim : InLimits z) where
   abbrev built : List ℤ
   built = grid z.rows z.columns (table_at P)
 
@@ -91,20 +91,20 @@ module _ (z : Size) (P : ℕ → ℕ → ℤ) (lim : InLimits z) where
     read-shape (slanted o) i j = ap wrap (read-rows (slanted o) i j) ∙ wrap-small (window_sum z (slanted o) P i j) (window-fits (slanted o) i j)
 
 module _ (x : Inputs) (ok : accepted x) (hf : Levels x.source.f) (hg : Levels x.source.g) where
-  lim : InLimits x.source.size
-  lim = in-limits x.source.size (accepted-has x ok).size
+  lim : InLimits x.source.frame
+  lim = in-limits x.source.frame (accepted-has x ok).frame
 
   -- reading gives the direct sum
-  pub read-direct : (i j : ℕ) → read_table x.source.size (table_of x.source) x.window i j ≡ direct_sum x i j
+  pub read-direct : (i j : ℕ) → read_table x.source.frame (table_of x.source) x.window i j ≡ direct_sum x i j
   unfolding read_table table_of direct_sum
-  read-direct i j = read-shape x.source.size (plane_at x.source) lim (plane-bound x.source hf hg) (shape_of x.window) i j
+  read-direct i j = read-shape x.source.frame (plane_at x.source) lim (plane-bound x.source hf hg) (shape_of x.window) i j
 
-  pub length-table : length (table_of x.source) ≡ cells x.source.size
+  pub length-table : length (table_of x.source) ≡ cells x.source.frame
   unfolding table_of
-  length-table = length-rows 0 x.source.size.rows x.source.size.columns (table_at (plane_at x.source))
+  length-table = length-rows 0 x.source.frame.rows x.source.frame.columns (table_at (plane_at x.source))
 
   -- building is taken, and fills the area with the table
-  pub build-fills : (area : List ℤ) → length area ≡ cells x.source.size → build_call x.source area ≡ record { answer = answered tt; area = table_of x.source }
+  pub build-fills : (area : List ℤ) → length area ≡ cells x.source.frame → build_call x.source area ≡ record { answer = answered tt; area = table_of x.source }
   unfolding build_call
   build-fills area e = filling-none (refusal (build_checks x.source area)) area (table_of x.source) taken
     where
@@ -112,25 +112,25 @@ module _ (x : Inputs) (ok : accepted x) (hf : Levels x.source.f) (hg : Levels x.
       taken =
           let s = x.source in
           let a = accepted-has x ok in
-          pass 1 (not (size_legal s.size)) _ (not-of (size_legal s.size) a.size)
-          ∙ pass 2 (not (eqb (length s.f) (cells s.size))) _ (length-passes (length s.f) (cells s.size) a.length_f)
-          ∙ pass 2 (not (eqb (length s.g) (cells s.size))) _ (length-passes (length s.g) (cells s.size) a.length_g)
+          pass 1 (not (frame_legal s.frame)) _ (not-of (frame_legal s.frame) a.frame)
+          ∙ pass 2 (not (eqb (length s.f) (cells s.frame))) _ (length-passes (length s.f) (cells s.frame) a.length_f)
+          ∙ pass 2 (not (eqb (length s.g) (cells s.frame))) _ (length-passes (length s.g) (cells s.frame) a.length_g)
           ∙ pass 4 (not (shift_legal s.shift)) _ (not-of (shift_legal s.shift) a.shift)
           ∙ pass 5 (ltb 5 s.plane) _ a.plane
-          ∙ pass 8 (not (eqb (length area) (cells s.size))) [] (length-passes (length area) (cells s.size) e)
+          ∙ pass 8 (not (eqb (length area) (cells s.frame))) [] (length-passes (length area) (cells s.frame) e)
           ∙ no-checks
 
   -- reading that table answers with the direct sum at every cell of the picture
-  pub read-answers : (i j : ℕ) → i < x.source.size.rows → j < x.source.size.columns → read_call x.source.size (table_of x.source) x.window i j ≡ answered (direct_sum x i j)
+  pub read-answers : (i j : ℕ) → i < x.source.frame.rows → j < x.source.frame.columns → read_call x.source.frame (table_of x.source) x.window i j ≡ answered (direct_sum x i j)
   unfolding read_call
   read-answers i j hi hj =
-      outcome-none (refusal (read_checks x.source.size (table_of x.source) x.window i j)) (read_table x.source.size (table_of x.source) x.window i j) taken ∙ ap answered (read-direct i j)
+      outcome-none (refusal (read_checks x.source.frame (table_of x.source) x.window i j)) (read_table x.source.frame (table_of x.source) x.window i j) taken ∙ ap answered (read-direct i j)
     where
-      taken : refusal (read_checks x.source.size (table_of x.source) x.window i j) ≡ none
+      taken : refusal (read_checks x.source.frame (table_of x.source) x.window i j) ≡ none
       taken =
-          let z = x.source.size in
+          let z = x.source.frame in
           let a = accepted-has x ok in
-          pass 1 (not (size_legal z)) _ (not-of (size_legal z) a.size)
+          pass 1 (not (frame_legal z)) _ (not-of (frame_legal z) a.frame)
           ∙ pass 3 (not (window_legal x.window)) _ (not-of (window_legal x.window) a.window)
           ∙ pass 6 (not (ltb i z.rows && ltb j z.columns)) _ (cell-passes z i j hi hj)
           ∙ pass 8 (not (eqb (length (table_of x.source)) (cells z))) [] (length-passes (length (table_of x.source)) (cells z) length-table)
@@ -141,6 +141,6 @@ pub build-order : (x : Source) (area : List ℤ) → numbers_of (build_checks x 
 unfolding numbers_of
 build-order x area = refl
 
-pub read-order : (z : Size) (t : List ℤ) (w : Window) (i j : ℕ) → numbers_of (read_checks z t w i j) ≡ 1 ∷ 3 ∷ 6 ∷ 8 ∷ []
+pub read-order : (z : Frame) (t : List ℤ) (w : Window) (i j : ℕ) → numbers_of (read_checks z t w i j) ≡ 1 ∷ 3 ∷ 6 ∷ 8 ∷ []
 unfolding numbers_of
 read-order z t w i j = refl

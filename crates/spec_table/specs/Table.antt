@@ -7,8 +7,8 @@ use Rattle.numbers.specs.Wrap.{wrap}
 use Rattle.spec_picture.specs.Refusal.{Outcome, Check, Filling, refusal, outcome, filling}
 use Rattle.spec_picture.specs.declared.Window.{Window}
 use Rattle.spec_picture.specs.Window.{Shape, rectangle, slanted, shape_of, height, reach}
-use Rattle.spec_picture.specs.declared.Size.{Size}
-use Rattle.spec_picture.specs.Size.{row_gap, cells}
+use Rattle.spec_picture.specs.declared.Frame.{Frame}
+use Rattle.spec_picture.specs.Frame.{row_gap, cells}
 use Rattle.spec_picture.specs.Picture.{Source, plane_at}
 use Rattle.spec_picture.specs.Conditions.{check1, check3, check4, check5, check6, check8, picture_checks}
 
@@ -19,12 +19,12 @@ table_at P i j = sum_to (suc i) (λ p. sum_to (suc j) (λ q. P p q))
 
 -- "Building fills a lent area of 64-bit signed numbers, one a cell, with T(i, j)"
 unfoldable pub table_of : Source → List ℤ
-table_of x = grid x.size.rows x.size.columns (table_at (plane_at x))
+table_of x = grid x.frame.rows x.frame.columns (table_at (plane_at x))
 
 -- building takes pictures, shift, plane and the area: 1, 2, 4, 5, 8
 abbrev pub build_checks : Source → List ℤ → List Check
 build_checks x area =
-    picture_checks x.size x.f x.g ++ (check4 x.shift ∷ check5 x.plane ∷ check8 (cells x.size) (length area) ∷ [])
+    picture_checks x.frame x.f x.g ++ (check4 x.shift ∷ check5 x.plane ∷ check8 (cells x.frame) (length area) ∷ [])
 
 unfoldable pub build_call : Source → List ℤ → Filling
 build_call x area = filling (refusal (build_checks x area)) area (table_of x)
@@ -32,34 +32,34 @@ build_call x area = filling (refusal (build_checks x area)) area (table_of x)
 -- ---- reading
 -- the table's number with x rows and y columns up to it: "T being 0 left of and above the picture,
 -- and a corner past its last row or column being taken on that last one"
-unfoldable pub corner : Size → List ℤ → ℕ → ℕ → ℤ
+unfoldable pub corner : Frame → List ℤ → ℕ → ℕ → ℤ
 corner z t zero y = pos 0
 corner z t (suc x) zero = pos 0
 corner z t (suc x) (suc y) = get_or t (min x (z.rows - 1) * z.columns + min y (z.columns - 1)) (pos 0)
 
 -- "the four corners of equation 7": the rectangle of the rows from top and the columns from left, up to bottom and right and without those
-unfoldable pub four_corners : Size → List ℤ → (top bottom left right : ℕ) → ℤ
+unfoldable pub four_corners : Frame → List ℤ → (top bottom left right : ℕ) → ℤ
 four_corners z t top bottom left right = corner z t bottom right -ℤ corner z t top right -ℤ corner z t bottom left +ℤ corner z t top left
 
 -- the rectangle of half sizes a and b on the cell (i, j)
-abbrev pub read_rectangle : Size → List ℤ → (a b i j : ℕ) → ℤ
+abbrev pub read_rectangle : Frame → List ℤ → (a b i j : ℕ) → ℤ
 read_rectangle z t a b i j = four_corners z t (i - a) (suc (i + a)) (j - b) (suc (j + b))
 
 -- "A diamond or hexagon is read as one-row rectangles."
-abbrev pub read_rows : Size → List ℤ → Shape → (i j : ℕ) → ℤ
+abbrev pub read_rows : Frame → List ℤ → Shape → (i j : ℕ) → ℤ
 read_rows z t s i j = sum_to z.rows (λ m. pick (leb (row_gap z i m) (height s)) (read_rectangle z t 0 (reach s (row_gap z i m)) m j))
 
 -- "that same corner formula, with sums that wrap at 64 bits"
-unfoldable pub read_shape : Size → List ℤ → Shape → (i j : ℕ) → ℤ
+unfoldable pub read_shape : Frame → List ℤ → Shape → (i j : ℕ) → ℤ
 read_shape z t (rectangle a b) i j = wrap (read_rectangle z t a b i j)
 read_shape z t (slanted o) i j = wrap (read_rows z t (slanted o) i j)
 
-unfoldable pub read_table : Size → List ℤ → Window → (i j : ℕ) → ℤ
+unfoldable pub read_table : Frame → List ℤ → Window → (i j : ℕ) → ℤ
 read_table z t w i j = read_shape z t (shape_of w) i j
 
--- reading takes the table, the size, a window and a cell: 1, 3, 6, 8
-abbrev pub read_checks : Size → List ℤ → Window → ℕ → ℕ → List Check
+-- reading takes the table, the frame, a window and a cell: 1, 3, 6, 8
+abbrev pub read_checks : Frame → List ℤ → Window → ℕ → ℕ → List Check
 read_checks z t w i j = check1 z ∷ check3 w ∷ check6 z i j ∷ check8 (cells z) (length t) ∷ []
 
-unfoldable pub read_call : Size → List ℤ → Window → ℕ → ℕ → Outcome ℤ
+unfoldable pub read_call : Frame → List ℤ → Window → ℕ → ℕ → Outcome ℤ
 read_call z t w i j = outcome (refusal (read_checks z t w i j)) (read_table z t w i j)

@@ -8,7 +8,7 @@ use native.Mathlib.Omega.{arith}
 use native.Mathlib.Decide.{dec_lt}
 use lib.IntN.{ℤ}
 use Rattle.spec_picture.specs.declared.Cell.{Cell}
-use Rattle.spec_picture.specs.Size.{cell}
+use Rattle.spec_picture.specs.Frame.{cell}
 use Rattle.spec_picture.specs.Picture.{Inputs}
 use Rattle.spec_statistics.specs.SixSums.{on_plane}
 use Rattle.spec_smoothing.specs.Steady.{find_cell}
@@ -28,31 +28,31 @@ blocks-heard x y z q ey ez eq i m m-is by bz bq = record {
   squared = block_sums (on_plane x 3) q eq i m m-is bq;
 }
 
-module _ (x : Inputs) (i m : ℕ) (below : i < x.source.size.rows) (m-is : m ≡ rows_in x i) where
-  within : i + m ≤ x.source.size.rows
+module _ (x : Inputs) (i m : ℕ) (below : i < x.source.frame.rows) (m-is : m ≡ rows_in x i) where
+  within : i + m ≤ x.source.frame.rows
   within = omega (arith, m-is, below)
 
-  rest : x.source.size.rows - i ≡ m + (x.source.size.rows - (i + m))
+  rest : x.source.frame.rows - i ≡ m + (x.source.frame.rows - (i + m))
   rest = omega (arith, within)
 
   -- 16 rows further on
   same-behind : steady_from x (i + m) ≡ steady_from x (i + 16)
-  same-behind = go (dec_lt (i + 16) x.source.size.rows)
+  same-behind = go (dec_lt (i + 16) x.source.frame.rows)
     where
-      go : Dec (i + 16 < x.source.size.rows) → steady_from x (i + m) ≡ steady_from x (i + 16)
+      go : Dec (i + 16 < x.source.frame.rows) → steady_from x (i + m) ≡ steady_from x (i + 16)
       go (yes h) =
           let full : m ≡ 16 = omega (arith, h, m-is) in
           ap (λ (k : ℕ). steady_from x (i + k)) full
       go (no h) =
-          let last : x.source.size.rows ≤ i + m = omega (arith, h, m-is) in
-          no_row (steady_at x) x.source.size.columns (i + m) x.source.size.rows last ∙ sym (no_row (steady_at x) x.source.size.columns (i + 16) x.source.size.rows (omega (arith, h)))
+          let last : x.source.frame.rows ≤ i + m = omega (arith, h, m-is) in
+          no_row (steady_at x) x.source.frame.columns (i + m) x.source.frame.rows last ∙ sym (no_row (steady_at x) x.source.frame.columns (i + 16) x.source.frame.rows (omega (arith, h)))
 
-  module _ (n s a : List ℤ) (h : RowsHeard x i m n s a) (o : Option Cell) (first : o ≡ find_cell (steady_in x.source.size.columns n s a) x.source.size.columns 0 m) where
-    in-rows : o ≡ find_cell (λ r. steady_at x (i + r)) x.source.size.columns 0 m
+  module _ (n s a : List ℤ) (h : RowsHeard x i m n s a) (o : Option Cell) (first : o ≡ find_cell (steady_in x.source.frame.columns n s a) x.source.frame.columns 0 m) where
+    in-rows : o ≡ find_cell (λ r. steady_at x (i + r)) x.source.frame.columns 0 m
     in-rows = first ∙ rows-steady x i m n s a h
 
     pub in_block : (at : Cell) → o ≡ some at → steady_from x i ≡ some (cell (i + at.row) at.column)
-    in_block at e = rows-found (steady_at x) x.source.size.columns i m x.source.size.rows rest at (sym in-rows ∙ e)
+    in_block at e = rows-found (steady_at x) x.source.frame.columns i m x.source.frame.rows rest at (sym in-rows ∙ e)
 
     pub behind-block : o ≡ none → steady_from x i ≡ steady_from x (i + 16)
-    behind-block e = rows-passed (steady_at x) x.source.size.columns i m x.source.size.rows rest (sym in-rows ∙ e) ∙ same-behind
+    behind-block e = rows-passed (steady_at x) x.source.frame.columns i m x.source.frame.rows rest (sym in-rows ∙ e) ∙ same-behind

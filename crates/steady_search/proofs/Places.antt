@@ -13,7 +13,7 @@ use mir.Facts.{to_z-of_z}
 use mir.Syntax.{w64}
 use mir.Val.{SFits, to_z, of_z}
 use Rattle.numbers.proofs.Writes.{at}
-use Rattle.spec_picture.specs.Size.{cell}
+use Rattle.spec_picture.specs.Frame.{cell}
 use Rattle.spec_statistics.specs.Voice.{voice}
 use Rattle.spec_statistics.specs.Answers.{voice_of}
 use Rattle.spec_statistics.specs.declared.Voice as declared

@@ -6,7 +6,7 @@ use native.Mathlib.Omega.{arith}
 use mathlib.Core.Bool.{Bool}
 use mathlib.Core.Option.{Option, none, some}
 use Rattle.spec_picture.specs.declared.Cell.{Cell}
-use Rattle.spec_picture.specs.Size.{cell}
+use Rattle.spec_picture.specs.Frame.{cell}
 use Rattle.spec_picture.specs.Picture.{Inputs}
 use Rattle.spec_statistics.specs.SixSums.{six_sums}
 use Rattle.spec_statistics.specs.Voice.{voice}
@@ -87,10 +87,10 @@ steady_at x i j = is_steady (voice (six_sums x i j))
 
 -- the search from row k on
 abbrev pub steady_from : Inputs → ℕ → Option Cell
-steady_from x k = find_cell (steady_at x) x.source.size.columns k (x.source.size.rows - k)
+steady_from x k = find_cell (steady_at x) x.source.frame.columns k (x.source.frame.rows - k)
 
 pub whole-search : (x : Inputs) → steady_from x 0 ≡ first_steady x
 unfolding first_steady
 whole-search x =
-    let m : x.source.size.rows - 0 ≡ x.source.size.rows = omega arith in
+    let m : x.source.frame.rows - 0 ≡ x.source.frame.rows = omega arith in
     rw m

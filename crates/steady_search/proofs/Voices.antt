@@ -63,7 +63,7 @@ answers_steady (refused n) = false
 answers_steady (answered v) = is_steady v
 
 -- "the first cell in row order whose voice answer is Steady": the answer to the six direct sums of the cell
-pub first-by-answers : (x : Inputs) → Checked x → first_steady x ≡ find_cell (λ i j. answers_steady (voice_call (six_sums x i j))) x.source.size.columns 0 x.source.size.rows
+pub first-by-answers : (x : Inputs) → Checked x → first_steady x ≡ find_cell (λ i j. answers_steady (voice_call (six_sums x i j))) x.source.frame.columns 0 x.source.frame.rows
 unfolding first_steady
 first-by-answers x c = simp (voice_answers x c)
 
@@ -74,14 +74,14 @@ pub record RowsHeard (x : Inputs) (i m : ℕ) (n s a : List ℤ) : Type 0 where
   pub squared : RowSums (on_plane x 3) i m a
 
 module _ (x : Inputs) (i m : ℕ) (n s a : List ℤ) (h : RowsHeard x i m n s a) where
-  sums-are : (r j : ℕ) → r < m → j < x.source.size.columns → sums_at n s a (r * x.source.size.columns + j) ≡ first_sums (six_sums x (i + r) j).n (six_sums x (i + r) j).s (six_sums x (i + r) j).a
+  sums-are : (r j : ℕ) → r < m → j < x.source.frame.columns → sums_at n s a (r * x.source.frame.columns + j) ≡ first_sums (six_sums x (i + r) j).n (six_sums x (i + r) j).s (six_sums x (i + r) j).a
   sums-are r j k l = rw (h.counted r j k l, h.summed r j k l, h.squared r j k l)
 
-  pub rows-possible : Checked x → (r j : ℕ) → r < m → j < x.source.size.columns → impossible (sums_at n s a (r * x.source.size.columns + j)) ≡ false
+  pub rows-possible : Checked x → (r j : ℕ) → r < m → j < x.source.frame.columns → impossible (sums_at n s a (r * x.source.frame.columns + j)) ≡ false
   rows-possible c r j k l = ap impossible (sums-are r j k l) ∙ possible-first (six_sums x (i + r) j) (cell-possible x c (i + r) j)
 
   -- the first steady cell of those numbers is that of the rows
-  pub rows-steady : find_cell (steady_in x.source.size.columns n s a) x.source.size.columns 0 m ≡ find_cell (λ r. steady_at x (i + r)) x.source.size.columns 0 m
+  pub rows-steady : find_cell (steady_in x.source.frame.columns n s a) x.source.frame.columns 0 m ≡ find_cell (λ r. steady_at x (i + r)) x.source.frame.columns 0 m
   rows-steady =
-      same-cells (steady_in x.source.size.columns n s a) (λ r. steady_at x (i + r)) x.source.size.columns 0 m
+      same-cells (steady_in x.source.frame.columns n s a) (λ r. steady_at x (i + r)) x.source.frame.columns 0 m
       (λ r j k l. ap is_steady (ap voice (sums-are r j (omega (arith, k)) l) ∙ voice-first (six_sums x (i + r) j)))

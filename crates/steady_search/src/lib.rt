@@ -10,19 +10,19 @@ ghost use Rattle.spec_picture.specs.Answers.{optional_outcome};
 ghost use Rattle.spec_smoothing.specs.Steady.{steady_call};
 
 use checks::operations::check_steady;
-use spec_picture::{Cell, Refusal, Shift, Size, Window};
+use spec_picture::{Cell, Frame, Refusal, Shift, Window};
 
 // "The steady search takes two pictures, a window and a shift, and gives the first cell in row order whose voice answer is Steady, or
 // None".
 pub fn steady(
-    size: Size,
+    frame: Frame,
     f: &[i16],
     g: &[i16],
     window: Window,
     shift: Shift,
 ) -> Result<Option<Cell>, Refusal>
-    ensures { optional_outcome result ≡ steady_call size f.now g.now window shift }
+    ensures { optional_outcome result ≡ steady_call frame f.now g.now window shift }
 {
-    let checked = check_steady(size, f, g, window, shift)?;
+    let checked = check_steady(frame, f, g, window, shift)?;
     Ok(search::by_blocks(&checked))
 }

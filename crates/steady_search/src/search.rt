@@ -16,8 +16,8 @@ use windows::clip;
 pub fn by_blocks(inputs: &CheckedInputs<'_>) -> Option<Cell>
     ensures { option_of result ≡ first_steady (checked_inputs inputs.now) }
 {
-    let rows = inputs.source.size.rows;
-    let columns = inputs.source.size.columns;
+    let rows = inputs.source.frame.rows;
+    let columns = inputs.source.frame.columns;
     let ones = inputs.on_plane(Plane::One);
     let levels = inputs.on_plane(Plane::F);
     let level_squares = inputs.on_plane(Plane::FSquared);

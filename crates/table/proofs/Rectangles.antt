@@ -14,8 +14,8 @@ use Rattle.numbers.proofs.Grids.{place_inside}
 use Rattle.numbers.proofs.Sums.{near-range}
 use Rattle.numbers.proofs.Running.{wrap-wrap}
 use Rattle.numbers.proofs.Wraps.{wrap-add, wrap-sub}
-use Rattle.spec_picture.specs.declared.Size.{Size}
-use Rattle.spec_picture.specs.Size.{size_legal, row_gap, cells}
+use Rattle.spec_picture.specs.declared.Frame.{Frame}
+use Rattle.spec_picture.specs.Frame.{frame_legal, row_gap, cells}
 use Rattle.spec_picture.specs.Window.{Shape, rectangle, slanted, window_legal, shape_of, is_rectangle, height, reach, width}
 use Rattle.spec_picture.specs.declared.Window.{Window}
 use Rattle.spec_picture.proofs.Refusals.{InLimits, in-limits}
@@ -23,7 +23,7 @@ use Rattle.spec_picture.proofs.Windows.{dual, small}
 use Rattle.spec_table.specs.Table.{corner, four_corners, read_rectangle, read_rows, read_shape}
 
 -- ---- a corner
-module _ (z : Size) (t : List ℤ) where
+module _ (z : Frame) (t : List ℤ) where
   -- "T being 0 left of and above the picture"
   pub corner-above : (x y : ℕ) → x ≡ 0 → pos 0 ≡ corner z t x y
   unfolding corner
@@ -37,7 +37,7 @@ module _ (z : Size) (t : List ℤ) where
   corner-left (suc x) (suc y) e = absurd (omega arith)
 
   -- the last row and column that x and y reach
-  module _ (legal : T (size_legal z)) where
+  module _ (legal : T (frame_legal z)) where
     lim : InLimits z
     lim = in-limits z legal
 
@@ -59,7 +59,7 @@ wrap-four : (a b c d : ℤ) → wrap (wrap (wrap (a -ℤ b) -ℤ c) +ℤ d) ≡ 
 wrap-four a b c d = ap (λ (v : ℤ). wrap (v +ℤ d)) (wrap-sub (a -ℤ b) c) ∙ wrap-add (a -ℤ b -ℤ c) d
 
 -- the sum of four corners that were read, wrapped at each step
-pub four-read : (z : Size) (t : List ℤ) (top bottom left right : ℕ) (a b c d v w r : ℤ)
+pub four-read : (z : Frame) (t : List ℤ) (top bottom left right : ℕ) (a b c d v w r : ℤ)
     → a ≡ corner z t bottom right → b ≡ corner z t top right → c ≡ corner z t bottom left → d ≡ corner z t top left
     → v ≡ wrap (a -ℤ b) → w ≡ wrap (v -ℤ c) → r ≡ wrap (w +ℤ d)
     → r ≡ wrap (four_corners z t top bottom left right)
@@ -69,16 +69,16 @@ four-read z t top bottom left right a b c d v w r ea eb ec ed ev ew er =
 
 -- ---- a window row by row
 -- the part of row m that lies in the window on (i, j)
-abbrev pub row_part : Size → List ℤ → Shape → (i j m : ℕ) → ℤ
+abbrev pub row_part : Frame → List ℤ → Shape → (i j m : ℕ) → ℤ
 row_part z t s i j m = read_rectangle z t 0 (reach s (row_gap z i m)) m j
 
 -- a row's part that was read
-pub part-read : (z : Size) (t : List ℤ) (s : Shape) (i j m d b : ℕ) (x : ℤ) → d ≡ row_gap z i m → b ≡ reach s d → x ≡ wrap (read_rectangle z t 0 b m j)
+pub part-read : (z : Frame) (t : List ℤ) (s : Shape) (i j m d b : ℕ) (x : ℤ) → d ≡ row_gap z i m → b ≡ reach s d → x ≡ wrap (read_rectangle z t 0 b m j)
     → wrap x ≡ wrap (row_part z t s i j m)
 part-read z t s i j m d b x ed eb ex = rw (ex, eb, ed) (wrap-wrap (row_part z t s i j m))
 
 -- the sum of the rows that a window holds, from its first up to its last
-pub rows-read : (z : Size) (t : List ℤ) (s : Shape) (i j lo m h : ℕ) (x : ℤ) → x ≡ wrap (sum_to (m - lo) (λ k. row_part z t s i j (lo + k)))
+pub rows-read : (z : Frame) (t : List ℤ) (s : Shape) (i j lo m h : ℕ) (x : ℤ) → x ≡ wrap (sum_to (m - lo) (λ k. row_part z t s i j (lo + k)))
     → i < z.rows → h ≡ height s → lo ≡ i - h → m ≡ min (suc (i + h)) z.rows
     → x ≡ wrap (read_rows z t s i j)
 rows-read z t s i j lo m h x ex hi eh el em =
@@ -87,13 +87,13 @@ rows-read z t s i j lo m h x ex hi eh el em =
     rw (ex, e, f) (ap wrap (sym (near-range z.rows i (height s) (row_part z t s i j))))
 
 -- ---- a window by its shape
-pub read-as-rectangle : (z : Size) (t : List ℤ) (s : Shape) (a b i j : ℕ) (x : ℤ) → is_rectangle s ≡ true → a ≡ height s → b ≡ width s
+pub read-as-rectangle : (z : Frame) (t : List ℤ) (s : Shape) (a b i j : ℕ) (x : ℤ) → is_rectangle s ≡ true → a ≡ height s → b ≡ width s
     → x ≡ wrap (read_rectangle z t a b i j) → x ≡ read_shape z t s i j
 unfolding read_shape height width
 read-as-rectangle z t (rectangle c d) a b i j x e ea eb ex = rw (ex, ea, eb)
 read-as-rectangle z t (slanted o) a b i j x e ea eb ex = absurd (true≢false (sym e))
 
-pub read-as-rows : (z : Size) (t : List ℤ) (s : Shape) (i j : ℕ) (x : ℤ) → is_rectangle s ≡ false → x ≡ wrap (read_rows z t s i j) → x ≡ read_shape z t s i j
+pub read-as-rows : (z : Frame) (t : List ℤ) (s : Shape) (i j : ℕ) (x : ℤ) → is_rectangle s ≡ false → x ≡ wrap (read_rows z t s i j) → x ≡ read_shape z t s i j
 unfolding read_shape
 read-as-rows z t (rectangle c d) i j x e ex = absurd (true≢false e)
 read-as-rows z t (slanted o) i j x e ex = ex

@@ -5,7 +5,7 @@
 
 ghost use Rattle.std.specs.Prelude.{◌≡◌, length};
 ghost use Rattle.numbers.specs.Grid.{tabulate};
-ghost use Rattle.spec_picture.specs.Size.{cells};
+ghost use Rattle.spec_picture.specs.Frame.{cells};
 ghost use Rattle.spec_picture.specs.Picture.{plane_at};
 ghost use Rattle.spec_picture.specs.Checked.{checked_source};
 ghost use Rattle.table.specs.RowSums.{row_number};
@@ -28,8 +28,8 @@ fn table_row(
     buffer: &mut [i16],
     row: &mut [i64],
 )
-    requires { RowAsked source.now.size i above.now buffer.old row.old }
-    ensures { row.new ≡ tabulate source.now.size.columns (row_number above.now (plane_at (checked_source source.now) i)) }
+    requires { RowAsked source.now.frame i above.now buffer.old row.old }
+    ensures { row.new ≡ tabulate source.now.frame.columns (row_number above.now (plane_at (checked_source source.now) i)) }
 {
     let view = view_of(source);
     let Factors::Level(factor) = factors_of(source.plane) else {
@@ -48,16 +48,16 @@ fn table_row(
 
 // The whole table, row by row.
 pub fn whole(source: &CheckedSource<'_>, table: &mut [i64])
-    requires { length table.old ≡ cells source.now.size }
+    requires { length table.old ≡ cells source.now.frame }
     ensures { table.new ≡ table_of (checked_source source.now) }
 {
-    let columns = source.size.columns;
+    let columns = source.frame.columns;
     // Room for the widest row, since there is no heap.
     let mut levels = [0i16; 1024];
     let first = &mut table[..columns];
     planes::plane_row(source, 0, first);
     first_row(first);
-    for i in 1..source.size.rows {
+    for i in 1..source.frame.rows {
         let (before, rest) = table.split_at_mut(i * columns);
         let above = &before[(i - 1) * columns..];
         table_row(

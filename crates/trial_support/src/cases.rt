@@ -1,7 +1,7 @@
 // What a call is given, with shapes and planes as numbers: not `Shape` and `Plane`, since the rival shares no enum with what it tries.
 use crate::random;
 use crate::random::CELLS;
-use spec_picture::{Cell, Shift, Size, Window};
+use spec_picture::{Cell, Frame, Shift, Window};
 
 #[derive(Clone, Copy)]
 pub struct Case {
@@ -29,8 +29,8 @@ impl Case {
         }
     }
 
-    pub fn size(self) -> Size {
-        Size {
+    pub fn frame(self) -> Frame {
+        Frame {
             rows: self.rows,
             columns: self.columns,
         }

@@ -74,7 +74,7 @@ impl<'a> Given<'a> {
     pub fn inputs(&self) -> Inputs<'a> {
         let c = self.case;
         let source = Source {
-            size: c.size(),
+            frame: c.frame(),
             f: self.f,
             g: self.g,
             shift: c.shift,

@@ -24,7 +24,7 @@ fn smoothed(case: Case, f: &[i16], t: Tally) -> Tally {
     let given = Given { case: c, f, g: f };
     let cells = c.cells().min(CELLS);
     let mut out = [0i16; CELLS];
-    let answer = smooth(c.size(), f, c.window(), &mut out[..cells]);
+    let answer = smooth(c.frame(), f, c.window(), &mut out[..cells]);
     let begun = t.with(answer.err(), None);
     (0..cells.min(64)).fold(begun, |t, k| {
         let cell = c.scattered(k);
@@ -47,7 +47,7 @@ fn is_steady(given: Given, cell: Cell) -> bool {
 // The library's search beside the rival's, cells by their places: "the first cell in row order whose voice answer is Steady", and none where no cell is.
 fn searched(given: Given, t: Tally) -> Tally {
     let c = given.case;
-    let answer = steady(c.size(), given.f, given.g, c.window(), c.shift);
+    let answer = steady(c.frame(), given.f, given.g, c.window(), c.shift);
     let ours = answer.map(|found| found.map(|cell| c.place(cell)));
     let first = (0..c.cells()).find(|k| is_steady(given, c.cell(*k)));
     t.with(ours, Ok(first))

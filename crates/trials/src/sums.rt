@@ -28,9 +28,9 @@ fn at_cell(given: Given, built: Table, foreign: Table, k: usize, t: Tallies) -> 
         entries: t.entries.with(entry, given.entry(cell)),
         built: t
             .built
-            .with(read(c.size(), built.entries, c.window(), cell), Ok(sum)),
+            .with(read(c.frame(), built.entries, c.window(), cell), Ok(sum)),
         foreign: t.foreign.with(
-            read(c.size(), foreign.entries, c.window(), cell),
+            read(c.frame(), foreign.entries, c.window(), cell),
             Ok(foreign.reading(cell)),
         ),
     }

@@ -12,12 +12,12 @@ use windows::clip;
 
 // Row 0: the column sums over rows 0 to a. None leaves: past the picture's last row no cell counts.
 pub fn first(source: &CheckedSource<'_>, a: usize, work: &mut [i64])
-    requires { length work.old ≡ source.now.size.columns }
-    ensures { work.new ≡ tabulate source.now.size.columns (column_sum source.now.size (plane_at (checked_source source.now)) a 0) }
+    requires { length work.old ≡ source.now.frame.columns }
+    ensures { work.new ≡ tabulate source.now.frame.columns (column_sum source.now.frame (plane_at (checked_source source.now)) a 0) }
 {
-    let end = clip::high(0, a, source.size.rows);
+    let end = clip::high(0, a, source.frame.rows);
     plane_values::fill(work, 0);
     for m in 0..end {
-        enter_and_leave(source, m, source.size.rows, work);
+        enter_and_leave(source, m, source.frame.rows, work);
     }
 }

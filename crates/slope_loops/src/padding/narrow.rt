@@ -28,10 +28,10 @@ impl PlaneValue for i16 {
         0
     }
 
-    #[tactic(auto, unfolding(spec_picture::specs::Size::size_legal))]
+    #[tactic(auto, unfolding(spec_picture::specs::Frame::frame_legal))]
     fn load(source: &CheckedSource<'_>, y: usize, buf: &mut [i16; ROW_LENGTH]) {
         let left = MARGIN;
-        let right = left + source.size.columns;
+        let right = left + source.frame.columns;
         if y < ABOVE {
             fill(&mut buf[left..right], 0);
             return;

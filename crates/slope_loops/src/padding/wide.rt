@@ -23,10 +23,10 @@ impl PlaneValue for i64 {
         0
     }
 
-    #[tactic(auto, unfolding(spec_picture::specs::Size::size_legal))]
+    #[tactic(auto, unfolding(spec_picture::specs::Frame::frame_legal))]
     fn load(source: &CheckedSource<'_>, y: usize, buf: &mut [i64; ROW_LENGTH]) {
         let left = MARGIN;
-        let right = left + source.size.columns;
+        let right = left + source.frame.columns;
         if y < ABOVE {
             plane_values::fill(&mut buf[left..right], 0);
             return;

@@ -36,9 +36,9 @@ fn after<S: Slope>(
     out: &mut [i64],
 )
     requires { AfterAsked S.Value.holds slanted.now rows (map S.Value.value a.old) (map S.Value.value b.old) (map S.Value.value c.old) (map S.sum rises.old) (map S.sum falls.old) work.old out.old }
-    ensures { Advanced (strip slanted.now.inputs.source.size (plane_in slanted.now) (shape_of (given slanted.now.inputs.window)) (suc rows.row) rows.count work.old) work.new out.new }
+    ensures { Advanced (strip slanted.now.inputs.source.frame (plane_in slanted.now) (shape_of (given slanted.now.inputs.window)) (suc rows.row) rows.count work.old) work.new out.new }
 {
-    let columns = slanted.inputs.source.size.columns;
+    let columns = slanted.inputs.source.frame.columns;
     for m in 0..rows.count {
         let begin = m * columns;
         let end = begin + columns;
@@ -75,7 +75,7 @@ fn top_row<S: Slope>(
     if !fresh {
         return 0;
     }
-    let columns = slanted.inputs.source.size.columns;
+    let columns = slanted.inputs.source.frame.columns;
     let corner = Cell { row: 0, column: 0 };
     let sum = window_sums::sum(&slanted.inputs, corner);
     first(sum, rises, falls, work, &mut out[..columns]);

@@ -36,5 +36,5 @@ returns c =
     let x = checked_inputs c.args.inputs.now in
     let height = c.height-height.ensures in
     rows-done x cell.row cell.column c.low-m.result c.high-bottom.result c.loop-m.m _ c.requires.row
-    (c.low-m.ensures ∙ ap (λ (h : ℕ). cell.row - h) height) (c.high-bottom.ensures ∙ ap (λ (h : ℕ). min (suc (cell.row + h)) x.source.size.rows) height)
+    (c.low-m.ensures ∙ ap (λ (h : ℕ). cell.row - h) height) (c.high-bottom.ensures ∙ ap (λ (h : ℕ). min (suc (cell.row + h)) x.source.frame.rows) height)
     (omega arith) (checked c.args.inputs.now) c.loop-m.invariant

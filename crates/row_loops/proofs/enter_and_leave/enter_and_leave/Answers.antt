@@ -10,5 +10,5 @@ returns c =
     let v = c.view_of-view.result in
     let x = checked_source v.source in
     rw (← c.view_of-view.ensures)
-    (sums-changed x.size.columns v.columns.first v.columns.end v.columns.ordered v.counting.by_column.within _ _ (rw (← c.view_of-view.ensures) at c.requires) c.numbers_fit.ensures _
+    (sums-changed x.frame.columns v.columns.first v.columns.end v.columns.ordered v.counting.by_column.within _ _ (rw (← c.view_of-view.ensures) at c.requires) c.numbers_fit.ensures _
     (λ j j< never. ap₂ ◌-ℤ◌ (column-outside x v.rows v.columns v.counting _ j j< never) (column-outside x v.rows v.columns v.counting _ j j< never)) c.columns_that_count.ensures)

@@ -17,8 +17,8 @@ use Rattle.row_session.proofs.advance.by_edges.Goals as goal
 
 pub returns-then-position-eq0 : goal.returns-then-position-eq0
 returns-then-position-eq0 c =
-    let fits : c.args.slanted.now.inputs.source.size.columns ≤ length c.args.out.now = omega (arith, c.requires.many.room, line-end 0 c.args.n c.args.slanted.now.inputs.source.size.columns c.requires.some) in
-    let z = c.args.slanted.now.inputs.source.size in
+    let fits : c.args.slanted.now.inputs.source.frame.columns ≤ length c.args.out.now = omega (arith, c.requires.many.room, line-end 0 c.args.n c.args.slanted.now.inputs.source.frame.columns c.requires.some) in
+    let z = c.args.slanted.now.inputs.source.frame in
     let P = plane_at (checked_source c.args.slanted.now.inputs.source) in
     let S = shape_of (given c.args.slanted.now.inputs.window) in
     let first = c.next in

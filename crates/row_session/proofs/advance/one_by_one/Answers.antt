@@ -17,13 +17,13 @@ use Rattle.row_session.proofs.advance.one_by_one.Goals as goal
 pub loop-k-init : goal.loop-k-init
 loop-k-init c =
     let plane : ℕ → ℕ → ℤ = plane_at (checked_source c.args.inputs.now.source) in
-    (omega arith, refl, c.requires.room_work, partly_none c.args.inputs.now.source.size plane (shape_of (given c.args.inputs.now.window)) c.args.position c.args.work.now c.args.out.now)
+    (omega arith, refl, c.requires.room_work, partly_none c.args.inputs.now.source.frame plane (shape_of (given c.args.inputs.now.window)) c.args.position c.args.work.now c.args.out.now)
 
 pub loop-k-preserved : goal.loop-k-preserved
 loop-k-preserved c =
     let plane : ℕ → ℕ → ℤ = plane_at (checked_source c.args.inputs.now.source) in
     let l = c.loop-k in
-    let z = c.args.inputs.now.source.size in
+    let z = c.args.inputs.now.source.frame in
     let start = l.k * z.columns in
     let ends : start + z.columns ≤ length l.out = omega (arith, l.invariant.1, c.requires.room, line-end l.k c.args.n z.columns c.loop-k-test.true) in
     let call = c.next in

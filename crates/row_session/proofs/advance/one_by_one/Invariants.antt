@@ -9,4 +9,4 @@ use Rattle.spec_rows.proofs.Strips.{Partly}
 use Rattle.row_session.proofs.advance.one_by_one.Given as goal
 
 abbrev pub invariant-loop-k : goal.invariant-loop-k
-invariant-loop-k l = (l.k ≤ l.n) × (length l.out ≡ length l.initial.out) × (length l.work ≡ l.inputs.source.size.columns) × Partly l.inputs.source.size (plane_at (checked_source l.inputs.source)) (shape_of (given l.inputs.window)) l.position l.initial.work l.k l.work l.out
+invariant-loop-k l = (l.k ≤ l.n) × (length l.out ≡ length l.initial.out) × (length l.work ≡ l.inputs.source.frame.columns) × Partly l.inputs.source.frame (plane_at (checked_source l.inputs.source)) (shape_of (given l.inputs.window)) l.position l.initial.work l.k l.work l.out

@@ -9,7 +9,7 @@ use Rattle.row_session.proofs.BlockSums.{block-fits, block_made}
 use Rattle.row_session.proofs.blocks.next.Goals.{After-high}
 use Rattle.row_session.proofs.blocks.next.Goals as goal
 
-fits : (c : After-high) → (c.high.result - c.args.i) * c.args.inputs.now.source.size.columns ≤ 16384
+fits : (c : After-high) → (c.high.result - c.args.i) * c.args.inputs.now.source.frame.columns ≤ 16384
 fits c = block-fits (checked_inputs c.args.inputs.now) (checked c.args.inputs.now) (c.high.result - c.args.i) (omega (arith, c.high.ensures))
 
 pub slice_bounds-many-end : goal.slice_bounds-many-end

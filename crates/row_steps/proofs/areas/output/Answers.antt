@@ -8,8 +8,8 @@ use Rattle.row_steps.proofs.areas.output.Goals as goal
 
 pub returns-then-is_rectangle : goal.returns-then-is_rectangle
 returns-then-is_rectangle c =
-    output-rectangle c.args.size (shape_of (given c.args.window)) _ c.args.work.now _ (sym c.is_rectangle.ensures ∙ c.if-is_rectangle.true) c.width.ensures c.requires.room_work c.across.ensures
+    output-rectangle c.args.frame (shape_of (given c.args.window)) _ c.args.work.now _ (sym c.is_rectangle.ensures ∙ c.if-is_rectangle.true) c.width.ensures c.requires.room_work c.across.ensures
 
 pub returns-else-is_rectangle : goal.returns-else-is_rectangle
 returns-else-is_rectangle c =
-    output-slanted c.args.size (shape_of (given c.args.window)) c.args.work.now _ (sym c.is_rectangle.ensures ∙ c.if-is_rectangle.false) c.copy_from_slice.ensures.after
+    output-slanted c.args.frame (shape_of (given c.args.window)) c.args.work.now _ (sym c.is_rectangle.ensures ∙ c.if-is_rectangle.false) c.copy_from_slice.ensures.after

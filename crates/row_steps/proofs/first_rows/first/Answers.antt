@@ -44,7 +44,7 @@ loop-m-preserved c =
     let call = c.reaching in (
       omega (arith, c.loop-m-test.true),
       call.auto.row ∙ l.invariant.1,
-      length-append call.new.cells (drop c.args.inputs.now.source.size.columns l.cells) ∙ omega (arith, call.auto.cells, length-take-le c.args.inputs.now.source.size.columns l.cells (omega (arith, (limits c.args.inputs.now.source).few_columns, l.invariant.2)), length-drop c.args.inputs.now.source.size.columns l.cells, (limits c.args.inputs.now.source).few_columns, l.invariant.2),
+      length-append call.new.cells (drop c.args.inputs.now.source.frame.columns l.cells) ∙ omega (arith, call.auto.cells, length-take-le c.args.inputs.now.source.frame.columns l.cells (omega (arith, (limits c.args.inputs.now.source).few_columns, l.invariant.2)), length-drop c.args.inputs.now.source.frame.columns l.cells, (limits c.args.inputs.now.source).few_columns, l.invariant.2),
       columns-plus _ _ l.m _ _ l.invariant.3 call.ensures,
     )
 
@@ -53,5 +53,5 @@ unfolding direct_sum
 returns c =
     let pictures : Source = checked_source c.args.inputs.now.source in
     let l = c.loop-m in
-    let end : l.m ≡ min (suc (0 + height (shape_of (given c.args.inputs.now.window)))) c.args.inputs.now.source.size.rows = omega (arith, l.invariant.0, c.loop-m-test.false) ∙ c.high-end.ensures ∙ ap (λ (a : ℕ). min (suc (0 + a)) c.args.inputs.now.source.size.rows) c.height.ensures in
-    windows-all c.args.inputs.now.source.size (plane_at pictures) (limits c.args.inputs.now.source) (plane-bound pictures c.args.inputs.now.source.levels_f c.args.inputs.now.source.levels_g) (shape_of (given c.args.inputs.now.window)) l.m _ end l.invariant.3
+    let end : l.m ≡ min (suc (0 + height (shape_of (given c.args.inputs.now.window)))) c.args.inputs.now.source.frame.rows = omega (arith, l.invariant.0, c.loop-m-test.false) ∙ c.high-end.ensures ∙ ap (λ (a : ℕ). min (suc (0 + a)) c.args.inputs.now.source.frame.rows) c.height.ensures in
+    windows-all c.args.inputs.now.source.frame (plane_at pictures) (limits c.args.inputs.now.source) (plane-bound pictures c.args.inputs.now.source.levels_f c.args.inputs.now.source.levels_g) (shape_of (given c.args.inputs.now.window)) l.m _ end l.invariant.3

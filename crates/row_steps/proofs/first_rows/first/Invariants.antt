@@ -9,4 +9,4 @@ use Rattle.row_steps.proofs.Columns.{columns_to, reached}
 use Rattle.row_steps.proofs.first_rows.first.Given as goal
 
 abbrev pub invariant-loop-m : goal.invariant-loop-m
-invariant-loop-m l = (l.m ≤ l.end) × (length l.row ≡ l.inputs.source.size.columns) × (length l.cells ≡ 1024) × (l.work ≡ columns_to (reached l.inputs.source.size (plane_at (checked_source l.inputs.source)) (shape_of (given l.inputs.window))) l.inputs.source.size.columns l.m)
+invariant-loop-m l = (l.m ≤ l.end) × (length l.row ≡ l.inputs.source.frame.columns) × (length l.cells ≡ 1024) × (l.work ≡ columns_to (reached l.inputs.source.frame (plane_at (checked_source l.inputs.source)) (shape_of (given l.inputs.window))) l.inputs.source.frame.columns l.m)

@@ -17,7 +17,7 @@ use Rattle.row_steps.proofs.first_rows.reaching.Goals as goal
 pub returns : goal.returns
 returns c =
     let plane : ℕ → ℕ → ℤ = plane_at (checked_source c.args.inputs.now.source) in
-    let columns = c.args.inputs.now.source.size.columns in
+    let columns = c.args.inputs.now.source.frame.columns in
     let part = c.plane_row in
     let cells = part.new.out in
     let whole : length cells ≡ columns = part.auto.out ∙ c.requires.room in

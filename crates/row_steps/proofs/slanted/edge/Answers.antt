@@ -29,7 +29,7 @@ gain-requires c =
 
 pub returns : goal.returns
 returns c =
-    let columns : ℕ = c.args.inputs.now.source.size.columns in
+    let columns : ℕ = c.args.inputs.now.source.frame.columns in
     let distance : ℕ = c.args.c in
     let changes : List ℤ = c.gain.new.row in
     let behind : List ℤ = c.add.new.work in
@@ -39,9 +39,9 @@ returns c =
     let length-behind : length behind ≡ columns - distance = c.add.auto.work ∙ slice-length distance columns c.args.work.now (omega (arith, c.requires.few)) (omega (arith, c.requires.step.room_work)) in
     let length-once : length once ≡ columns = part_length distance columns c.args.work.now behind (omega (arith, c.requires.few)) (omega (arith, c.requires.step.room_work)) length-behind ∙ c.requires.step.room_work in
     let length_before : length before-it ≡ columns - distance = c.add-2.auto.work ∙ length-take-le (columns - distance) once (omega (arith, length-once)) in
-    let entering : ℕ → ℤ = enter_leave c.args.inputs.now.source.size (plane_at (checked_source c.args.inputs.now.source)) c.args.i (depth (shape_of (given c.args.inputs.now.window)) distance) in
+    let entering : ℕ → ℤ = enter_leave c.args.inputs.now.source.frame (plane_at (checked_source c.args.inputs.now.source)) c.args.i (depth (shape_of (given c.args.inputs.now.window)) distance) in
     let changes-at : (k : ℕ) → k < columns → at changes k ≡ wrap (entering k) =
     λ k k-below. tabulate-at changes _ _ c.gain.ensures k (omega (arith, length-changes))
-    ∙ ap (λ (d : ℕ). wrap (enter_leave c.args.inputs.now.source.size (plane_at (checked_source c.args.inputs.now.source)) c.args.i d k)) c.depth.ensures in
+    ∙ ap (λ (d : ℕ). wrap (enter_leave c.args.inputs.now.source.frame (plane_at (checked_source c.args.inputs.now.source)) c.args.i d k)) c.depth.ensures in
     edge-done columns distance _ _ c.args.work.now changes behind before-it entering c.requires.some c.requires.few
     c.requires.step.room_work length-changes c.requires.wrapped changes-at c.add.ensures length-behind c.add-2.ensures length_before

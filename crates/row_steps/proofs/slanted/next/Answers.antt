@@ -55,7 +55,7 @@ loop-c-preserved c =
 pub returns : goal.returns
 returns c =
     let l = c.loop-c in
-    let z = c.args.inputs.now.source.size in
+    let z = c.args.inputs.now.source.frame in
     let s = shape_of (given c.args.inputs.now.window) in
     let end : l.c ≡ min (suc (0 + width s)) z.columns = omega (arith, l.invariant.1, c.loop-c-test.false) ∙ c.high-end.ensures ∙ ap (λ (w : ℕ). min (suc (0 + w)) z.columns) c.width.ensures in
     let same : suc (0 + width s) ≡ suc (width s) = omega arith in

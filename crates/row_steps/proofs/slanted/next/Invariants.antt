@@ -9,4 +9,4 @@ use Rattle.row_steps.proofs.EdgeRows.{later}
 use Rattle.row_steps.proofs.slanted.next.Given as goal
 
 abbrev pub invariant-loop-c : goal.invariant-loop-c
-invariant-loop-c l = (1 ≤ l.c) × (l.c ≤ l.end) × (length l.row ≡ l.inputs.source.size.columns) × (l.work ≡ later l.inputs.source.size (plane_at (checked_source l.inputs.source)) (shape_of (given l.inputs.window)) l.i l.initial.work l.initial.work (l.c - 1))
+invariant-loop-c l = (1 ≤ l.c) × (l.c ≤ l.end) × (length l.row ≡ l.inputs.source.frame.columns) × (l.work ≡ later l.inputs.source.frame (plane_at (checked_source l.inputs.source)) (shape_of (given l.inputs.window)) l.i l.initial.work l.initial.work (l.c - 1))

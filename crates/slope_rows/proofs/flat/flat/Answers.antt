@@ -5,8 +5,6 @@ use native.Mathlib.Omega.{arith}
 use mathlib.Core.List.{List, ◌++◌}
 use lib.IntN.{ℤ}
 use lib.ListN.{length, take}
-use lib.Seq.{length-take-le}
-use Rattle.spec_picture.proofs.Found.{limits}
 use Rattle.numbers.specs.Grid.{tabulate}
 use Rattle.numbers.specs.Wrap.{wrap}
 use Rattle.numbers.proofs.Grids.{length-tabulate}
@@ -16,12 +14,12 @@ use Rattle.spec_picture.specs.Checked.{checked_source}
 use Rattle.numbers.proofs.Running.{wrap-wrap}
 use Rattle.numbers.proofs.Writes.{at, tabulate-at}
 use Rattle.spec_rows.specs.Rows.{enter_leave}
-use Rattle.row_steps.proofs.AcrossRows.{front, front_fits, front_length, added-alone, added-across}
+use Rattle.row_steps.proofs.AcrossRows.{front, front_length, added-across}
 use Rattle.slope_rows.proofs.flat.flat.Goals as goal
 
 -- what enters and leaves
 abbrev change : CheckedSource → (i h : ℕ) → ℕ → ℤ
-change s i h = enter_leave s.size (plane_at (checked_source s)) i h
+change s i h = enter_leave s.frame (plane_at (checked_source s)) i h
 
 -- as the row that is summed across, which stands in the room's front
 module _ (n : ℕ) (F : ℕ → ℤ) (part : List ℤ) (e : part ≡ tabulate n (λ m. wrap (F m))) where
@@ -35,31 +33,7 @@ module _ (n : ℕ) (F : ℕ → ℤ) (part : List ℤ) (e : part ≡ tabulate n 
     changes : (m : ℕ) → m < n → wrap (at (take n (part ++ rest)) m) ≡ wrap (F m)
     changes m h = ap (λ (l : List ℤ). wrap (at l m)) (front n part rest part_length) ∙ ap wrap (tabulate-at part n _ e m (omega (arith, part_length))) ∙ wrap-wrap (F m)
 
-pub returns-then-k-eq0 : goal.returns-then-k-eq0
-returns-then-k-eq0 c =
-    added-alone c.args.source.now.size.columns c.args.k (change c.args.source.now c.args.i c.args.h) c.args.work.now _ c.if-k-eq0.true c.add_gain.ensures
-
-pub slice_bounds-change-end : goal.slice_bounds-change-end
-slice_bounds-change-end c = (limits c.args.source.now).few_columns
-
-pub slice_bounds-gain-end : goal.slice_bounds-gain-end
-slice_bounds-gain-end c = sym (length-take-le _ _ (limits c.args.source.now).few_columns)
-
-pub gain-requires : goal.gain-requires
-gain-requires c =
-    let r = c.requires.row in
-    record { row = r.row; distance = r.distance; room = length-take-le _ _ (limits c.args.source.now).few_columns }
-
-pub slice_bounds-change-end-2 : goal.slice_bounds-change-end-2
-slice_bounds-change-end-2 c = front_fits _ _ _ (part_length _ _ _ c.gain.ensures)
-
-pub slice_bounds-across-end : goal.slice_bounds-across-end
-slice_bounds-across-end c = lent _ _ _ c.gain.ensures _
-
-pub across-requires : goal.across-requires
-across-requires c = c.requires.room ∙ lent _ _ _ c.gain.ensures _
-
 pub returns : goal.returns
 returns c =
-    added-across c.args.source.now.size.columns c.args.k (change c.args.source.now c.args.i c.args.h) c.args.work.now _ _ _
+    added-across c.args.source.now.frame.columns c.args.k (change c.args.source.now c.args.i c.args.h) c.args.work.now _ _ _
     (sym (lent _ _ _ c.gain.ensures _)) (changes _ _ _ c.gain.ensures _) c.across.ensures c.requires.row.room c.add.ensures

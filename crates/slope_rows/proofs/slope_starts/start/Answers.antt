@@ -26,7 +26,7 @@ loop-t-preserved g c =
     let limits = row-limits c.args.slanted.now _ c.requires.1.inside in
     let lower = c.load.ensures in
     let upper = c.load-in-loop-t.ensures in (
-      blank_of P x.size.columns beside _ _ lower,
-      blank_of P x.size.columns beside _ _ upper,
-      slopes-cell P x.size.columns beside _ _ _ _ _ limits.3 (omega (arith, limits, c.loop-t-test.true)) c.rising_cells.ensures c.falling_cells.ensures lower upper c.loop-t.invariant.2 c.gather.ensures c.gather-in-loop-t.ensures,
+      blank_of P x.frame.columns beside _ _ lower,
+      blank_of P x.frame.columns beside _ _ upper,
+      slopes-cell P x.frame.columns beside _ _ _ _ _ limits.3 (omega (arith, limits, c.loop-t-test.true)) c.rising_cells.ensures c.falling_cells.ensures lower upper c.loop-t.invariant.2 c.gather.ensures c.gather-in-loop-t.ensures,
     )

@@ -11,4 +11,4 @@ abbrev pub invariant-loop-t : goal.invariant-loop-t
 invariant-loop-t g l =
     let S = g.S.Slope in
     let V = g.S.Value.PlaneValue in
-    Blank (map V.value l.a) l.slanted.inputs.source.size.columns × Blank (map V.value l.b) l.slanted.inputs.source.size.columns × Slopes (padded (plane_in l.slanted)) l.slanted.inputs.source.size.columns l.slanted.width l.t (ABOVE + l.i) 0 (map S.sum l.rises) (map S.sum l.falls)
+    Blank (map V.value l.a) l.slanted.inputs.source.frame.columns × Blank (map V.value l.b) l.slanted.inputs.source.frame.columns × Slopes (padded (plane_in l.slanted)) l.slanted.inputs.source.frame.columns l.slanted.width l.t (ABOVE + l.i) 0 (map S.sum l.rises) (map S.sum l.falls)

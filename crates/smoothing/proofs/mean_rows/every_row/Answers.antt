@@ -31,18 +31,18 @@ module _ (c : After-high) where
   m = c.high.result - i
 
   abbrev start : ℕ
-  start = i * x.source.size.columns
+  start = i * x.source.frame.columns
 
   abbrev end : ℕ
-  end = start + m * x.source.size.columns
+  end = start + m * x.source.frame.columns
 
-  within : i + m ≤ x.source.size.rows
+  within : i + m ≤ x.source.frame.rows
   within = omega (arith, c.high.ensures, c.loop-block-test.true, c.div_ceil-block-end.ensures)
 
   ends : end ≤ length c.loop-block.out
   ends = omega (arith, c.loop-block.invariant.full, block-end x i m within)
 
-  fits : m * x.source.size.columns ≤ 16384
+  fits : m * x.source.frame.columns ≤ 16384
   fits = block-fits x (checked c.args.inputs.now) m (omega (arith, c.high.ensures))
 
   counted : RowSums (on_plane x 0) i m c.next.new.block
@@ -51,8 +51,8 @@ module _ (c : After-high) where
   summed : RowSums (on_plane x 1) i m c.next-in-loop-block.new.block
   summed = block_sums (on_plane x 1) _ c.on_plane-levels.ensures i m (rw c.high.ensures) c.next-in-loop-block.ensures
 
-  room : length (take (end - start) (drop start c.loop-block.out)) ≡ m * x.source.size.columns
-  room = lent-length start (m * x.source.size.columns) c.loop-block.out ends
+  room : length (take (end - start) (drop start c.loop-block.out)) ≡ m * x.source.frame.columns
+  room = lent-length start (m * x.source.frame.columns) c.loop-block.out ends
 
 pub slice_bounds-row_means-end-in-loop-block-2 : goal.slice_bounds-row_means-end-in-loop-block-2
 slice_bounds-row_means-end-in-loop-block-2 c = ends (goal.at.slice_bounds-row_means-end-in-loop-block-2 c).After-high
@@ -66,7 +66,7 @@ row_means-requires c =
 pub loop-block-preserved : goal.loop-block-preserved
 loop-block-preserved c =
     let b = (goal.at.loop-block-preserved c).After-high in
-    let z = (x b).source.size in
+    let z = (x b).source.frame in
     let f = λ (i j : ℕ). mean (six_sums (x b) i j) in
     let l = c.loop-block in
     let part = c.row_means.new.out in
@@ -85,7 +85,7 @@ loop-block-preserved c =
 pub returns : goal.returns
 unfolding smoothed
 returns c =
-    let z = c.args.inputs.now.source.size in
+    let z = c.args.inputs.now.source.frame in
     let l = c.loop-block in
     let all : min (16 * l.block) z.rows ≡ z.rows = omega (arith, c.loop-block-test.false, c.div_ceil-block-end.ensures) in
     lines-all (λ i j. mean (six_sums (checked_inputs c.args.inputs.now) i j)) z.columns l.out z.rows (rw all at l.invariant.written) l.invariant.full

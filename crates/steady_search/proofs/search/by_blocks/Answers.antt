@@ -26,7 +26,7 @@ module _ (c : After-high) where
   abbrev m : ℕ
   m = c.high.result - i
 
-  below : i < x.source.size.rows
+  below : i < x.source.frame.rows
   below = omega (arith, c.loop-block-test.true, c.div_ceil-block-end.ensures)
 
   rows : m ≡ rows_in x i
@@ -73,5 +73,5 @@ pub returns : goal.returns
 returns c =
     let x : Inputs = checked_inputs c.args.inputs.now in
     let l = c.loop-block in
-    let end : x.source.size.rows ≤ 16 * l.block = omega (arith, c.loop-block-test.false, c.div_ceil-block-end.ensures) in
-    sym (no_row (steady_at x) x.source.size.columns (16 * l.block) x.source.size.rows end) ∙ l.invariant.same
+    let end : x.source.frame.rows ≤ 16 * l.block = omega (arith, c.loop-block-test.false, c.div_ceil-block-end.ensures) in
+    sym (no_row (steady_at x) x.source.frame.columns (16 * l.block) x.source.frame.rows end) ∙ l.invariant.same

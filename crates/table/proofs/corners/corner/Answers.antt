@@ -25,16 +25,16 @@ overflow_sub-column c = omega (arith, c.min-column.ensures, in-limits _ c.args.t
 pub offset_bounds-table-row : goal.offset_bounds-table-row
 offset_bounds-table-row c =
     let table = c.args.table.now in
-    let place = corner-place table.size table.numbers.now table.legal _ _ _ _ table.full c.min-row.ensures c.min-column.ensures in
+    let place = corner-place table.frame table.numbers.now table.legal _ _ _ _ table.full c.min-row.ensures c.min-column.ensures in
     omega (arith, place)
 
 pub bounds-table-row : goal.bounds-table-row
 bounds-table-row c =
     let table = c.args.table.now in
-    corner-place table.size table.numbers.now table.legal _ _ _ _ table.full c.min-row.ensures c.min-column.ensures
+    corner-place table.frame table.numbers.now table.legal _ _ _ _ table.full c.min-row.ensures c.min-column.ensures
 
 pub returns : goal.returns
 returns c =
     let table = c.args.table.now in
     to_z-of_z {w = w64} (search rules)
-    ∙ corner-inner table.size table.numbers.now table.legal c.args.x c.args.y _ _ (omega arith) (omega arith) c.min-row.ensures c.min-column.ensures
+    ∙ corner-inner table.frame table.numbers.now table.legal c.args.x c.args.y _ _ (omega arith) (omega arith) c.min-row.ensures c.min-column.ensures

@@ -22,6 +22,6 @@ returns c =
     let fits-up-to-right : SFits w64 up-to-right.result = record { sfits = up-to-right.type_inv } in
     let fits-without-left : SFits w64 without-left.result = record { sfits = without-left.type_inv } in
     to_z-of_z {w = w64} (record { sfits = c.wrapping_add.type_inv })
-    ∙ four-read table.size table.numbers.now c.args.rows.start c.args.rows.end c.args.columns.start c.args.columns.end _ _ _ _ _ _ _
+    ∙ four-read table.frame table.numbers.now c.args.rows.start c.args.rows.end c.args.columns.start c.args.columns.end _ _ _ _ _ _ _
     bottom-right.ensures top-right.ensures bottom-left.ensures top-left.ensures
     (simp to_z-of_z at up-to-right.ensures) (simp to_z-of_z at without-left.ensures) (simp to_z-of_z at c.wrapping_add.ensures)

@@ -14,7 +14,7 @@ use Rattle.table.proofs.corners.row_by_row.Goals as goal
 pub loop-m-init : goal.loop-m-init
 loop-m-init c =
     let table = c.args.table.now in
-    (omega arith, omega (arith, c.low-m.ensures, c.high-end.ensures, c.requires.row), range_none (row_part table.size table.numbers.now (shape_of (given c.args.window)) c.args.cell.row c.args.cell.column) _)
+    (omega arith, omega (arith, c.low-m.ensures, c.high-end.ensures, c.requires.row), range_none (row_part table.frame table.numbers.now (shape_of (given c.args.window)) c.args.cell.row c.args.cell.column) _)
 
 pub rectangle-part-requires : goal.rectangle-part-requires
 rectangle-part-requires c =
@@ -29,13 +29,13 @@ loop-m-preserved c =
     let l = c.loop-m in
     let part = c.rectangle-part in
     let fits : SFits w64 part.result = record { sfits = part.type_inv } in
-    let same : wrap part.result ≡ wrap (row_part table.size table.numbers.now shape i j l.m) =
-    part-read table.size table.numbers.now shape i j l.m _ _ _ c.distance-distance.ensures c.reach-reach.ensures part.ensures in
-    (omega arith, omega arith, to_z-of_z {w = w64} (record { sfits = c.wrapping_add-sum.type_inv }) ∙ simp to_z-of_z at c.wrapping_add-sum.ensures ∙ range-more (row_part table.size table.numbers.now shape i j) c.low-m.result l.m (to_z w64 l.sum-bits) part.result l.invariant.0 l.invariant.2 same)
+    let same : wrap part.result ≡ wrap (row_part table.frame table.numbers.now shape i j l.m) =
+    part-read table.frame table.numbers.now shape i j l.m _ _ _ c.distance-distance.ensures c.reach-reach.ensures part.ensures in
+    (omega arith, omega arith, to_z-of_z {w = w64} (record { sfits = c.wrapping_add-sum.type_inv }) ∙ simp to_z-of_z at c.wrapping_add-sum.ensures ∙ range-more (row_part table.frame table.numbers.now shape i j) c.low-m.result l.m (to_z w64 l.sum-bits) part.result l.invariant.0 l.invariant.2 same)
 
 pub returns : goal.returns
 returns c =
     let table = c.args.table.now in
-    rows-read table.size table.numbers.now (shape_of (given c.args.window)) c.args.cell.row c.args.cell.column
+    rows-read table.frame table.numbers.now (shape_of (given c.args.window)) c.args.cell.row c.args.cell.column
     c.low-m.result c.loop-m.m c.height-height.result _ c.loop-m.invariant.2
     c.requires.row c.height-height.ensures c.low-m.ensures (omega (arith, c.high-end.ensures))

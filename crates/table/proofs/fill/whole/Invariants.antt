@@ -11,8 +11,8 @@ use Rattle.table.proofs.fill.whole.Given as goal
 abbrev pub invariant-loop-i : goal.invariant-loop-i
 invariant-loop-i l = record {
   below : 1 ≤ l.i;
-  within : l.i ≤ l.source.size.rows;
+  within : l.i ≤ l.source.frame.rows;
   buffer : length l.levels ≡ 1024;
-  full : length l.table ≡ l.source.size.rows * l.columns;
+  full : length l.table ≡ l.source.frame.rows * l.columns;
   lines : Lines (table_at (plane_at (checked_source l.source))) l.columns l.table l.i;
 }

@@ -16,7 +16,7 @@ pub loop-m-init : goal.loop-m-init
 loop-m-init c =
     let pictures : Source = checked_source c.args.source.now in
     let plane : ℕ → ℕ → ℤ = plane_at pictures in
-    (omega arith, columns-none plane c.args.source.now.size.columns _ _ c.requires c.fill.ensures)
+    (omega arith, columns-none plane c.args.source.now.frame.columns _ _ c.requires c.fill.ensures)
 
 pub loop-m-preserved : goal.loop-m-preserved
 loop-m-preserved c =
@@ -24,7 +24,7 @@ loop-m-preserved c =
     let plane : ℕ → ℕ → ℤ = plane_at pictures in
     let l = c.loop-m in (
       omega arith,
-      columns-more plane c.args.source.now.size.columns l.m c.args.source.now.size.rows _ _ (λ j. plane-past pictures _ j (omega arith)) l.invariant.1 c.enter_and_leave.ensures,
+      columns-more plane c.args.source.now.frame.columns l.m c.args.source.now.frame.rows _ _ (λ j. plane-past pictures _ j (omega arith)) l.invariant.1 c.enter_and_leave.ensures,
     )
 
 pub returns : goal.returns
@@ -32,5 +32,5 @@ returns c =
     let pictures : Source = checked_source c.args.source.now in
     let plane : ℕ → ℕ → ℤ = plane_at pictures in
     let l = c.loop-m in
-    columns-all c.args.source.now.size plane (limits c.args.source.now) (plane-bound pictures c.args.source.now.levels_f c.args.source.now.levels_g) c.args.a l.m _
+    columns-all c.args.source.now.frame plane (limits c.args.source.now) (plane-bound pictures c.args.source.now.levels_f c.args.source.now.levels_g) c.args.a l.m _
     (omega (arith, c.loop-m-test.false, c.high-end.ensures)) l.invariant.1

@@ -7,4 +7,4 @@ use Rattle.row_steps.proofs.Columns.{columns_to}
 use Rattle.row_steps.proofs.first_rows.rectangle.first.Given as goal
 
 abbrev pub invariant-loop-m : goal.invariant-loop-m
-invariant-loop-m l = (l.m ≤ l.end) × (l.work ≡ columns_to (plane_at (checked_source l.source)) l.source.size.columns l.m)
+invariant-loop-m l = (l.m ≤ l.end) × (l.work ≡ columns_to (plane_at (checked_source l.source)) l.source.frame.columns l.m)

@@ -20,7 +20,7 @@ use Rattle.slope_rows.proofs.edges.rows.after.Goals as goal
 pub loop-m-init : goal.loop-m-init
 loop-m-init g c =
     let x = c.args.slanted.now in
-    let z = x.inputs.source.size in (
+    let z = x.inputs.source.frame in (
       omega arith,
       refl,
       c.requires.many.room_work,
@@ -34,7 +34,7 @@ pub row-requires : goal.row-requires
 row-requires g c =
     let x = c.args.slanted.now in
     let l = c.loop-m in
-    let z = c.args.slanted.now.inputs.source.size in
+    let z = c.args.slanted.now.inputs.source.frame in
     let begin = l.m * z.columns in
     let ends : begin + z.columns ≤ length l.out = omega (arith, l.invariant.1, c.requires.many.room, line-end l.m c.args.rows.count z.columns c.loop-m-test.true) in
     let inside = c.loop-m-test.true in
@@ -61,7 +61,7 @@ pub loop-m-preserved : goal.loop-m-preserved
 loop-m-preserved g c =
     let x = c.args.slanted.now in
     let l = c.loop-m in
-    let z = c.args.slanted.now.inputs.source.size in
+    let z = c.args.slanted.now.inputs.source.frame in
     let begin = l.m * z.columns in
     let ends : begin + z.columns ≤ length l.out = omega (arith, l.invariant.1, c.requires.many.room, line-end l.m c.args.rows.count z.columns c.loop-m-test.true) in
     let r = c.row.ensures.row in
@@ -80,7 +80,7 @@ pub returns : goal.returns
 returns g c =
     let x = c.args.slanted.now in
     let l = c.loop-m in
-    partly-all x.inputs.source.size (plane_in x) (shape_of (given x.inputs.window)) (suc c.args.rows.row) c.args.work.now c.args.rows.count l.m l.work l.out l.invariant.3 (omega (arith, l.invariant.0, c.loop-m-test.false)) (l.invariant.1 ∙ c.requires.many.room)
+    partly-all x.inputs.source.frame (plane_in x) (shape_of (given x.inputs.window)) (suc c.args.rows.row) c.args.work.now c.args.rows.count l.m l.work l.out l.invariant.3 (omega (arith, l.invariant.0, c.loop-m-test.false)) (l.invariant.1 ∙ c.requires.many.room)
 
 pub overflow_add-here : goal.overflow_add-here
 overflow_add-here g c =

@@ -16,6 +16,6 @@ abbrev pub invariant-loop-m : goal.invariant-loop-m
 invariant-loop-m g l =
     let S = g.S.Slope in
     let V = g.S.Value.PlaneValue in
-    (l.m ≤ l.rows.count) × (length l.out ≡ length l.initial.out) × (length l.work ≡ l.slanted.inputs.source.size.columns) × Partly l.slanted.inputs.source.size (plane_in l.slanted) (shape_of (given l.slanted.inputs.window)) (suc l.rows.row) l.initial.work l.m l.work l.out ×
-    Rows l.slanted.inputs.source.size.columns (map V.value l.a) (map V.value l.b) (map V.value l.c) × Slopes (padded (plane_in l.slanted)) l.slanted.inputs.source.size.columns l.slanted.width l.slanted.height (ABOVE + (l.rows.row + l.m)) l.m (map S.sum l.rises) (map S.sum l.falls) ×
+    (l.m ≤ l.rows.count) × (length l.out ≡ length l.initial.out) × (length l.work ≡ l.slanted.inputs.source.frame.columns) × Partly l.slanted.inputs.source.frame (plane_in l.slanted) (shape_of (given l.slanted.inputs.window)) (suc l.rows.row) l.initial.work l.m l.work l.out ×
+    Rows l.slanted.inputs.source.frame.columns (map V.value l.a) (map V.value l.b) (map V.value l.c) × Slopes (padded (plane_in l.slanted)) l.slanted.inputs.source.frame.columns l.slanted.width l.slanted.height (ABOVE + (l.rows.row + l.m)) l.m (map S.sum l.rises) (map S.sum l.falls) ×
     Holds (map V.value l.c) (padded (plane_in l.slanted) (ABOVE + (l.rows.row + l.m) - l.slanted.height))

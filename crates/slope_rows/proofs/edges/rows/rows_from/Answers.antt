@@ -19,7 +19,7 @@ use Rattle.slope_rows.proofs.edges.rows.rows_from.Goals as goal
 pub start-requires : goal.start-requires
 start-requires g c =
     let x = c.args.slanted.now in
-    let columns = x.inputs.source.size.columns in (
+    let columns = x.inputs.source.frame.columns in (
       g.met.S.Value.PlaneValue.row_fits,
       (
         g.met.S.Slope.slopes_fit,
@@ -43,7 +43,7 @@ overflow_sub-i g c = omega (arith, c.args.slanted.now.fits.low, c.args.slanted.n
 
 pub load-requires : goal.load-requires
 load-requires g c =
-    let columns = c.args.slanted.now.inputs.source.size.columns in
+    let columns = c.args.slanted.now.inputs.source.frame.columns in
     (g.met.S.Value.PlaneValue.row_fits, (c.requires.plane, blank g.S.Value.PlaneValue.value ROW_LENGTH refl columns c.zero-c.result c.zero-c.ensures))
 
 pub after-requires : goal.after-requires
@@ -52,7 +52,7 @@ after-requires g c =
     let r = c.start.ensures in
     let leaves = c.load.ensures in
     let top = c.top_row-begin in
-    let columns = c.args.slanted.now.inputs.source.size.columns in
+    let columns = c.args.slanted.now.inputs.source.frame.columns in
     let end = length top.new.out in
     let kept = top.auto.out in
     let f = behind-fits _ _ _ _ _ top.ensures.begins top.ensures.none c.requires.room_fresh c.requires.room_behind in (

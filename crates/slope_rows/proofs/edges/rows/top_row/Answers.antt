@@ -28,7 +28,7 @@ first-requires g c =
         length_rises = c.requires.length_rises;
         length_falls = c.requires.length_falls;
         few = omega (arith, c.requires.room_work, (limits c.args.slanted.now.inputs.source).few_columns);
-        room = length-take-le c.args.slanted.now.inputs.source.size.columns c.args.out.now (c.requires.room t) ∙ omega (arith, c.requires.room_work);
+        room = length-take-le c.args.slanted.now.inputs.source.frame.columns c.args.out.now (c.requires.room t) ∙ omega (arith, c.requires.room_work);
       },
     )
 
@@ -36,7 +36,7 @@ pub returns : goal.returns
 returns g c =
     let x : Inputs = checked_inputs c.args.slanted.now.inputs in
     let fits = c.args.slanted.now.fits in
-    let columns = c.args.slanted.now.inputs.source.size.columns in
+    let columns = c.args.slanted.now.inputs.source.frame.columns in
     let t : T c.args.fresh = of-not c.args.fresh (ap not c.if-not-fresh.false) in
     let corner = c.sum-sum in
     let whole : SFits w64 corner.result = record { sfits = corner.type_inv } in

@@ -1,35 +1,35 @@
--- The size of a picture, its cells, and how far apart its rows and its columns are.
+-- The frame of a picture, its cells, and how far apart its rows and its columns are.
 -- Assumes nothing.
 use Rattle.std.specs.Prelude.{ℕ, ◌*◌, ◌<◌, Bool, false, ◌&&◌, leb, ltb, ℤ, pos, negsuc, nat_abs}
 use Rattle.numbers.specs.Sum.{dist}
-use Rattle.spec_picture.specs.declared.Size.{Size}
+use Rattle.spec_picture.specs.declared.Frame.{Frame}
 use Rattle.spec_picture.specs.declared.Cell.{Cell}
 
-abbrev pub size : (rows columns : ℕ) → Size
-size r c = record { rows = r; columns = c }
+abbrev pub frame : (rows columns : ℕ) → Frame
+frame r c = record { rows = r; columns = c }
 
 abbrev pub cell : (row column : ℕ) → Cell
 cell i j = record { row = i; column = j }
 
 -- "A picture has 1 to 256 rows and 1 to 1,024 columns."
-unfoldable pub size_legal : Size → Bool
-size_legal z = leb 1 z.rows && leb z.rows 256 && leb 1 z.columns && leb z.columns 1024
+unfoldable pub frame_legal : Frame → Bool
+frame_legal z = leb 1 z.rows && leb z.rows 256 && leb 1 z.columns && leb z.columns 1024
 
 -- "rows times columns"
-abbrev pub cells : Size → ℕ
+abbrev pub cells : Frame → ℕ
 cells z = z.rows * z.columns
 
--- A cell of the picture. It stands in contracts, since it is said of a cell and of a size: a type that said it would hold both, or be made anew wherever the size
+-- A cell of the picture. It stands in contracts, since it is said of a cell and of a frame: a type that said it would hold both, or be made anew wherever the frame
 -- stands in another type.
-pub record Within (z : Size) (i j : ℕ) : Type 0 where
+pub record Within (z : Frame) (i j : ℕ) : Type 0 where
   pub row : i < z.rows
   pub column : j < z.columns
 
 -- how far apart two rows, and two columns, of the picture are
-abbrev pub row_gap : Size → ℕ → ℕ → ℕ
+abbrev pub row_gap : Frame → ℕ → ℕ → ℕ
 row_gap z i m = dist i m
 
-abbrev pub column_gap : Size → ℕ → ℕ → ℕ
+abbrev pub column_gap : Frame → ℕ → ℕ → ℕ
 column_gap z j n = dist j n
 
 -- a signed place is one of the n first
@@ -38,12 +38,12 @@ in_range n (pos k) = ltb k n
 in_range n (negsuc k) = false
 
 -- the cell at a signed row and column is inside the picture
-abbrev pub inside : Size → (row column : ℤ) → Bool
+abbrev pub inside : Frame → (row column : ℤ) → Bool
 inside z r c = in_range z.rows r && in_range z.columns c
 
 -- the row, and the column, at a signed place that is inside
-abbrev pub row_at : Size → ℤ → ℕ
+abbrev pub row_at : Frame → ℤ → ℕ
 row_at z r = nat_abs r
 
-abbrev pub column_at : Size → ℤ → ℕ
+abbrev pub column_at : Frame → ℤ → ℕ
 column_at z c = nat_abs c
