@@ -8,7 +8,7 @@
  *
  * WHAT COMES BACK. Every function returns a status:
  *
- *   LS_OK             it answered, and the answer stands behind the pointers;
+ *   LS_OK             it answered, and the answer is where the pointers point;
  *   LS_REFUSED_...    a condition holds under which the call is turned down. Each function names
  *                     its conditions; they are tried in the order of their numbers, and the first
  *                     that holds is the status;
@@ -19,7 +19,7 @@
  *
  * WHAT IS ASKED OF A CALLER. The functions cannot test the following, and promise nothing without it:
  *
- *   - A pointer with a length behind it (f and f_length) points to so many elements, which stay
+ *   - A pointer with a length after it (f and f_length) points to so many elements, which stay
  *     where they are until the call returns. A pointer without one points to one element.
  *   - No pointer is NULL, and each is aligned for its type, also where the length is 0: pass the
  *     address of any object of the type. Nothing is read or written through it then.
@@ -34,7 +34,7 @@
  * the next, allocates nothing, and calls nothing of the C library but, where the compiler so
  * chose, memcpy, memmove and memset. Every call returns.
  *
- * STACK. The work areas of a call stand on the caller's stack. Measured on x86-64, as the older kit
+ * STACK. The work areas of a call are on the caller's stack. Measured on x86-64, as the older kit
  * rattle-kit-5b-plain built it: ls_steady takes up to 520 KiB of it, ls_smooth and ls_panel up to
  * 380 KiB, ls_rows up to 100 KiB, the others up to 24 KiB. Nothing is proved of it.
  *
@@ -256,7 +256,7 @@ int32_t ls_steady(size_t rows, size_t columns, const int16_t *f, size_t f_length
 
 /*
  * What the program panel prints for a text, to the front of out; *written is the count of its
- * bytes, and the bytes behind them keep their contents. No byte 0 is added.
+ * bytes, and the bytes after them keep their contents. No byte 0 is added.
  *
  * The text has decimal numbers divided by spaces, tabs and line feeds: rows, columns, shape, the
  * two window numbers, then the levels; at most 4,096 cells and 65,536 bytes. The output is the

@@ -10,7 +10,7 @@ from pathlib import Path
 ROOT = Path(__file__).resolve().parent.parent
 HEADER = "include/local_statistics.h"
 SOURCE = "crates/c_interface/src/*.rt"
-REPLIES = "crates/c_interface/src/replies.rt"
+RESULTS = "crates/c_interface/src/results.rt"
 BINDING = "bindings/rust/src/calls.rs"
 TYPES = "bindings/rust/src/types.rs"
 REFUSALS = "bindings/rust/src/refusal.rs"
@@ -55,9 +55,9 @@ CONSTANTS = {
     "LS_REFUSED_AREA": [(LINES, "    Area = @,"), (CONDITIONS, "@ when not (eqb given wanted)"), (REFUSALS, " Area = @,")],
     "LS_REFUSED_SUMS": [(LINES, "    Sums = @,"), (SIX_SUMS, "(@ when impossible z)"), (REFUSALS, " Sums = @,")],
     "LS_REFUSED_TEXT": [(LINES, "    Text = @,"), (PANEL, "windowed z w None = refused @")],
-    "LS_EMPTY": [(REPLIES, "const EMPTY: i32 = @;"), (BINDING, "const EMPTY: i32 = @;")],
-    "LS_FLAT": [(REPLIES, "const FLAT: i32 = @;"), (BINDING, "const FLAT: i32 = @;")],
-    "LS_NOWHERE": [(REPLIES, "const NOWHERE: i32 = @;"), (BINDING, "const NOWHERE: i32 = @;")],
+    "LS_EMPTY": [(RESULTS, "const EMPTY: i32 = @;"), (BINDING, "const EMPTY: i32 = @;")],
+    "LS_FLAT": [(RESULTS, "const FLAT: i32 = @;"), (BINDING, "const FLAT: i32 = @;")],
+    "LS_NOWHERE": [(RESULTS, "const NOWHERE: i32 = @;"), (BINDING, "const NOWHERE: i32 = @;")],
     "LS_RECTANGLE": [(SHAPES, "@ => Ok(Shape::Rectangle),"), (TYPES, "shape: @, first: a, second: b")],
     "LS_DIAMOND": [(SHAPES, "@ => Ok(Shape::Diamond),"), (TYPES, "shape: @, first: r, second: 0")],
     "LS_HEXAGON": [(SHAPES, "@ => Ok(Shape::Hexagon),"), (TYPES, "shape: @, first: k, second: h")],
@@ -67,8 +67,8 @@ CONSTANTS = {
     "LS_PLANE_F_SQUARED": [(PLANES, "@ => Ok(Plane::FSquared),"), (SIX_SUMS, " a = direct_sum (on_plane x @)"), (TYPES, "F_SQUARED: Plane = Plane(@)")],
     "LS_PLANE_G_SQUARED": [(PLANES, "@ => Ok(Plane::GSquared),"), (SIX_SUMS, " b = direct_sum (on_plane x @)"), (TYPES, "G_SQUARED: Plane = Plane(@)")],
     "LS_PLANE_PRODUCT": [(PLANES, "@ => Ok(Plane::Product),"), (SIX_SUMS, " p = direct_sum (on_plane x @)"), (TYPES, "PRODUCT: Plane = Plane(@)")],
-    "LS_STEADY": [(REPLIES, "const STEADY: u32 = @;"), (BINDING, "const STEADY: u32 = @;")],
-    "LS_GRAINY": [(REPLIES, "const GRAINY: u32 = @;")],
+    "LS_STEADY": [(RESULTS, "const STEADY: u32 = @;"), (BINDING, "const STEADY: u32 = @;")],
+    "LS_GRAINY": [(RESULTS, "const GRAINY: u32 = @;")],
     "LS_MAX_ROWS": [("crates/spec_picture/specs/Frame.antt", "leb z.rows @"), (TYPES, "MAX_ROWS: usize = @;")],
     "LS_MAX_COLUMNS": [("crates/spec_picture/specs/Frame.antt", "leb z.columns @"), (TYPES, "MAX_COLUMNS: usize = @;")],
     "LS_MAX_DOWN": [("crates/spec_picture/specs/Picture.antt", "(pos @) d.down"), (TYPES, "MAX_DOWN: i32 = @;")],
@@ -205,10 +205,10 @@ def versions_unlike(header, texts):
 def words_unlike(header):
     """The words of `ls_status_text` are those behind the statuses."""
     defined = {name: words for name, words in re.findall(r"^#define (LS_(?:OK|REFUSED_\w+|EMPTY|FLAT|NOWHERE)) \S+ +/\* (.*) \*/$", header, re.M)}
-    said = dict(re.findall(r'^    case (LS_\w+):\n        return "(.*)";$', header, re.M))
-    for name in sorted(defined.keys() | said.keys()):
-        if defined.get(name) != said.get(name):
-            yield f"{name} is '{defined.get(name)}' where it is defined and '{said.get(name)}' in ls_status_text"
+    worded = dict(re.findall(r'^    case (LS_\w+):\n        return "(.*)";$', header, re.M))
+    for name in sorted(defined.keys() | worded.keys()):
+        if defined.get(name) != worded.get(name):
+            yield f"{name} is '{defined.get(name)}' where it is defined and '{worded.get(name)}' in ls_status_text"
 
 
 # ---- The comparison, and damaged copies
@@ -255,7 +255,7 @@ DAMAGES = [
     ("a function not exported", SOURCE, r"#\[unsafe\(no_mangle\)\]\s*", ""),
     ("another width", SOURCE, r"table: &\[i64\]", "table: &[i32]"),
     ("a slice that is written", SOURCE, r"text: &\[u8\]", "text: &mut [u8]"),
-    ("another status", REPLIES, r"EMPTY: i32 = -1", "EMPTY: i32 = -4"),
+    ("another status", RESULTS, r"EMPTY: i32 = -1", "EMPTY: i32 = -4"),
     ("two parameters exchanged", BINDING, r"n: i64, s: i64", "s: i64, n: i64"),
     ("an area that is only read", BINDING, r"work: \*mut i64", "work: *const i64"),
     ("a function missing", BINDING, r"fn ls_panel\([^;]*;", ""),

@@ -283,7 +283,7 @@ DAMAGES = [
     ("a law that is not there", DECISIONS, r"`direct-fits`", "`direct-fit`"),
     ("another definition", TRACE, r"spec_picture\.Frame\.frame_legal", "spec_picture.Frame.legal"),
     ("another file of laws", TRACE, r"spec_picture\.Refusals\.direct-order", "spec_picture.Calls.direct-order"),
-    ("another module", TRACE, r"row_steps::step::add_gain", "row_steps::slanted::add_gain"),
+    ("another module", TRACE, r"row_steps::step::enter_and_leave_at", "row_steps::slanted::enter_and_leave_at"),
     ("another edit", TRACE, r"spec_picture/plane_6`", "spec_picture/plane_7`"),
     ("an edit of a crate that is gone", TRACE, r"The edits of `arithmetic`", "The edits of `wrapping`"),
     ("an old text that is nowhere", "crates/spec_picture/must-fail/plane_6.edit", r"old: +5 =>", "old: the 5 =>"),

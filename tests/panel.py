@@ -14,7 +14,7 @@ found = []
 tried = 0
 
 
-def expect(what, ran, status, output=None, said=None):
+def expect(what, ran, status, output=None, message=None):
     """The run ended with the status, printed the output, and said so on standard error."""
     global tried
     tried += 1
@@ -22,9 +22,9 @@ def expect(what, ran, status, output=None, said=None):
         found.append(f"{what}: status {ran.returncode} and not {status}: {ran.stderr!r}")
     if output is not None and ran.stdout != output:
         found.append(f"{what}: printed {ran.stdout[:60]!r} and not {output[:60]!r}")
-    if said is not None and said not in ran.stderr:
-        found.append(f"{what}: said {ran.stderr!r} and not {said!r}")
-    if said is None and ran.stderr:
+    if message is not None and message not in ran.stderr:
+        found.append(f"{what}: said {ran.stderr!r} and not {message!r}")
+    if message is None and ran.stderr:
         found.append(f"{what}: said {ran.stderr!r}")
 
 

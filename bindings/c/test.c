@@ -1,6 +1,6 @@
 /*
  * Calls every function of the library: document 01's own numbers, every refusal and their order. Everything that a call may write
- * stands in one record, with guards between; after each call the whole record is compared with what it must be.
+ * is in one record, with guards between; after each call the whole record is compared with what it must be.
  */
 #include "local_statistics.h"
 

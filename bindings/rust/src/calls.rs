@@ -213,7 +213,7 @@ mod tests {
 
     #[test]
     #[should_panic(expected = "another version")]
-    fn an_unknown_status_is_told() {
+    fn an_unknown_status_is_reported() {
         let _ = answered(-4);
     }
 }

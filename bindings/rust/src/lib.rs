@@ -10,8 +10,8 @@
 //! goes from a text to a text.
 //!
 //! The functions are those of the C library `local_statistics`, which is proved to answer as document 01, *Local statistics of
-//! drawn pictures*, says. They allocate nothing and keep nothing between calls. No input halts them: what document 01 turns down
-//! comes back as a [`Refusal`], and every area that the call was lent then keeps its contents.
+//! drawn pictures*, says. They allocate nothing and keep nothing between calls. No input crashes them or keeps them
+//! running: what document 01 turns down comes back as a [`Refusal`], and every area that the call was lent then keeps its contents.
 //!
 //! ```
 //! use local_statistics::{direct_sum, six_sums, Cell, Pictures, Plane, Size, Window};

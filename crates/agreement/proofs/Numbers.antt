@@ -1,4 +1,4 @@
--- No check bears the number 0, so 0 means that the call is taken.
+-- No check bears the number 0, so 0 means that the call is accepted.
 -- Assumes nothing.
 use mathlib.Core.Path.{◌≡◌, refl}
 use mathlib.Core.Bool.{Bool, true, false, ◌&&◌}

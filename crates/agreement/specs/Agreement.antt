@@ -1,6 +1,6 @@
 -- "Words of demand 3": one claim about every list of row calls.
 --
--- It is a claim about the code, because each contract gives the function's answer and areas by the very definition that stands here:
+-- It is a claim about the code, because each contract gives the function's answer and areas by the very definition that is used here:
 --   row_session: rows, rows_plain; in C ls_rows         answer, position, work and output area of `row_call`
 --   direct_sum: direct_sum; ls_direct_sum             the answer of `direct_call`
 --   table: build, read; ls_build, ls_read             answer and area of `build_call`; the answer of `read_call`

@@ -1,4 +1,4 @@
--- A division by 2d as a multiplication: the reciprocal, and of what it is taken.
+-- A division by 2d as a multiplication: the reciprocal, and of which numbers it is one.
 -- Assumes nothing.
 use Rattle.std.specs.Prelude.{ℕ, ◌-◌, ◌*◌, ◌/◌, ◌^◌, ◌≤◌, ◌<◌}
 

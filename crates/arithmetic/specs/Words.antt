@@ -1,8 +1,8 @@
 -- The number that words of 64 bits stand for.
 -- Assumes nothing.
 use Rattle.std.specs.Prelude.{ℕ, ◌+◌, ◌*◌, ◌^◌}
-use Rattle.arithmetic.specs.declared.wide.Product.{Product}
-use Rattle.arithmetic.specs.declared.wide.Scaled.{Scaled}
+use Rattle.arithmetic.specs.declared.long_product.Product.{Product}
+use Rattle.arithmetic.specs.declared.long_product.Scaled.{Scaled}
 
 abbrev pub value : Product → ℕ
 value x = x.high * 2 ^ 64 + x.low

@@ -3,6 +3,6 @@
 
 pub mod wrapping; // wrapping.rt: sums and differences that wrap at 64 bits
 pub mod machine; // machine.rt: the product of two levels, the magnitude of a number
-pub mod wide; // wide.rt: products past 64 bits
-pub mod wide_order; // wide_order.rt: their order
+pub mod long_product; // long_product.rt: products past 64 bits
+pub mod long_order; // long_order.rt: their order
 pub mod quotients; // quotients.rt: the nearest quotient, by a reciprocal

@@ -5,7 +5,7 @@ ghost use Rattle.std.specs.Prelude.{◌≡◌, ◌*◌, ◌<◌, ◌≤◌, nat_
 ghost use Rattle.numbers.specs.Round.{nearest};
 ghost use Rattle.arithmetic.specs.Quotients.{Divisor, reciprocal};
 
-use crate::wide;
+use crate::long_product;
 
 // A count of cells d, and what stands for a division by 2d: a number multiplied by it is divided in the upper 64 bits of the product.
 #[derive(Clone, Copy)]
@@ -33,7 +33,7 @@ impl Reciprocal {
         ensures { result ≡ nearest x self.of }
     {
         let raised = 2 * x + 65537 * (self.of as i64);
-        let product = wide::multiply(raised as u64 + 1, self.by);
+        let product = long_product::multiply(raised as u64 + 1, self.by);
         product.high as i64 - 32768
     }
 }

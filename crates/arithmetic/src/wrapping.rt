@@ -1,4 +1,4 @@
-// Sums and differences of i64 that wrap at 64 bits: std's methods, which promise it of the bits. The promise of the integers, `wrap`, stands here once.
+// Sums and differences of i64 that wrap at 64 bits: std's methods, which promise it of the bits. The promise of the integers, `wrap`, is stated here once.
 
 ghost use Rattle.std.specs.Prelude.{◌≡◌, ◌+ℤ◌, ◌-ℤ◌};
 ghost use Rattle.numbers.specs.Wrap.{wrap};

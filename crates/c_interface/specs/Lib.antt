@@ -1,1 +1,1 @@
-pub mod PanelReply
+pub mod PanelResult

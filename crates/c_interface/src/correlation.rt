@@ -1,11 +1,11 @@
 // The C interface to the coefficient of six sums N, S, T, A, B, P.
-#![tactic(auto, unfolding(spec_c::specs::Reply::status, spec_c::specs::Reply::result_or, spec_c::specs::Reply::reply))]
+#![tactic(auto, unfolding(spec_c::specs::CResult::status, spec_c::specs::CResult::result_or, spec_c::specs::CResult::c_result))]
 
 ghost use Rattle.spec_statistics.specs.Coefficient.{coefficient_call};
-ghost use Rattle.spec_c.specs.Reply.{reply, sums, of_coefficient};
+ghost use Rattle.spec_c.specs.CResult.{c_result, sums, of_coefficient};
 ghost use Rattle.spec_c.specs.Leaves.{CallLeaves};
 
-use crate::replies::{EMPTY, FLAT, refused};
+use crate::results::{EMPTY, FLAT, refused};
 use local_statistics::{Coefficient, Sums};
 
 // `statistics::correlation::coefficient`: the coefficient of f and g. Its answer has three cases, so it is taken apart here.
@@ -19,7 +19,7 @@ pub extern "C" fn ls_coefficient(
     p: i64,
     coefficient: &mut i64,
 ) -> i32
-    ensures { CallLeaves (reply of_coefficient (coefficient_call (sums n s t a b p))) coefficient.old result coefficient.new }
+    ensures { CallLeaves (c_result of_coefficient (coefficient_call (sums n s t a b p))) coefficient.old result coefficient.new }
 {
     let sums = Sums { n, s, t, a, b, p };
     match local_statistics::coefficient(sums) {

@@ -4,10 +4,10 @@ ghost use Rattle.spec_picture.specs.Frame.{frame};
 ghost use Rattle.spec_picture.specs.Window.{window};
 ghost use Rattle.spec_picture.specs.Picture.{shift, inputs};
 ghost use Rattle.spec_picture.specs.Direct.{direct_call};
-ghost use Rattle.spec_c.specs.Reply.{with_value, reply};
+ghost use Rattle.spec_c.specs.CResult.{with_value, c_result};
 ghost use Rattle.spec_c.specs.Leaves.{CallLeaves};
 
-use crate::replies::hand_back;
+use crate::results::hand_back;
 use local_statistics::{Cell, Frame, Inputs, Shift, Source, Window, direct_sum};
 
 // `direct_sum::direct_sum`: the sum of a plane over the window on a cell.
@@ -27,7 +27,7 @@ pub extern "C" fn ls_direct_sum(
     column: usize,
     sum: &mut i64,
 ) -> i32
-    ensures { CallLeaves (reply with_value (direct_call (inputs (frame rows columns) f.now g.now (window shape first second) (shift down right) plane) row column)) sum.old result sum.new }
+    ensures { CallLeaves (c_result with_value (direct_call (inputs (frame rows columns) f.now g.now (window shape first second) (shift down right) plane) row column)) sum.old result sum.new }
 {
     let inputs = Inputs {
         source: Source {

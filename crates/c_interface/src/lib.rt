@@ -10,7 +10,7 @@
 // what panel prints.)
 #![tactic(auto)]
 
-mod replies; // replies.rt: how an answer becomes a status and a value
+mod results; // results.rt: how an answer becomes a status and a value
 pub mod direct; // direct.rt: the direct sum
 pub mod tables; // tables.rt: the cumulative table
 pub mod rows; // rows.rt: the row session

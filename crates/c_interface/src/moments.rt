@@ -1,16 +1,16 @@
 // The C interface to the mean, the variance and the deviation of six sums N, S, T, A, B, P.
 
 ghost use Rattle.spec_statistics.specs.Moments.{mean_call, variance_call, deviation_call};
-ghost use Rattle.spec_c.specs.Reply.{reply, sums, of_whole};
+ghost use Rattle.spec_c.specs.CResult.{c_result, sums, of_whole};
 ghost use Rattle.spec_c.specs.Leaves.{CallLeaves};
 
-use crate::replies::{EMPTY, hand_back_or};
+use crate::results::{EMPTY, hand_back_or};
 use local_statistics::Sums;
 
 // `statistics::moments::mean`: the mean of f.
 #[unsafe(no_mangle)]
 pub extern "C" fn ls_mean(n: i64, s: i64, t: i64, a: i64, b: i64, p: i64, mean: &mut i64) -> i32
-    ensures { CallLeaves (reply of_whole (mean_call (sums n s t a b p))) mean.old result mean.new }
+    ensures { CallLeaves (c_result of_whole (mean_call (sums n s t a b p))) mean.old result mean.new }
 {
     hand_back_or(
         local_statistics::mean(Sums { n, s, t, a, b, p }),
@@ -30,7 +30,7 @@ pub extern "C" fn ls_variance(
     p: i64,
     variance: &mut i64,
 ) -> i32
-    ensures { CallLeaves (reply of_whole (variance_call (sums n s t a b p))) variance.old result variance.new }
+    ensures { CallLeaves (c_result of_whole (variance_call (sums n s t a b p))) variance.old result variance.new }
 {
     hand_back_or(
         local_statistics::variance(Sums { n, s, t, a, b, p }),
@@ -50,7 +50,7 @@ pub extern "C" fn ls_deviation(
     p: i64,
     deviation: &mut i64,
 ) -> i32
-    ensures { CallLeaves (reply of_whole (deviation_call (sums n s t a b p))) deviation.old result deviation.new }
+    ensures { CallLeaves (c_result of_whole (deviation_call (sums n s t a b p))) deviation.old result deviation.new }
 {
     hand_back_or(
         local_statistics::deviation(Sums { n, s, t, a, b, p }),

@@ -6,7 +6,7 @@ ghost use Rattle.spec_picture.specs.Picture.{shift, inputs};
 ghost use Rattle.spec_rows.specs.Rows.{row_call};
 ghost use Rattle.spec_c.specs.Leaves.{RowCallLeaves};
 
-use crate::replies::hand_back;
+use crate::results::hand_back;
 use local_statistics::{Frame, Inputs, Shift, Source, Window, rows_plain};
 
 // `row_session::rows_plain`: the sums of the next rows of a session, which in C is its position alone.

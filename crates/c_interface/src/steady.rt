@@ -4,10 +4,10 @@ ghost use Rattle.spec_picture.specs.Frame.{frame, cell};
 ghost use Rattle.spec_picture.specs.Window.{window};
 ghost use Rattle.spec_picture.specs.Picture.{shift};
 ghost use Rattle.spec_smoothing.specs.Steady.{steady_call};
-ghost use Rattle.spec_c.specs.Reply.{reply, of_cell};
+ghost use Rattle.spec_c.specs.CResult.{c_result, of_cell};
 ghost use Rattle.spec_c.specs.Leaves.{CallLeaves};
 
-use crate::replies;
+use crate::results;
 use local_statistics::{Frame, Shift, Window, steady};
 
 // `steady_search::steady`: the first steady cell in row order.
@@ -25,7 +25,7 @@ pub extern "C" fn ls_steady(
     row: &mut usize,
     column: &mut usize,
 ) -> i32
-    ensures { CallLeaves (reply of_cell (steady_call (frame rows columns) f.now g.now (window shape first second) (shift down right))) (cell row.old column.old) result (cell row.new column.new) }
+    ensures { CallLeaves (c_result of_cell (steady_call (frame rows columns) f.now g.now (window shape first second) (shift down right))) (cell row.old column.old) result (cell row.new column.new) }
 {
     let frame = Frame { rows, columns };
     let window = Window {
@@ -34,5 +34,5 @@ pub extern "C" fn ls_steady(
         second,
     };
     let shift = Shift { down, right };
-    replies::found(steady(frame, f, g, window, shift), row, column)
+    results::found(steady(frame, f, g, window, shift), row, column)
 }

@@ -5,10 +5,10 @@ ghost use Rattle.spec_picture.specs.Frame.{frame};
 ghost use Rattle.spec_picture.specs.Window.{window};
 ghost use Rattle.spec_picture.specs.Picture.{shift, source};
 ghost use Rattle.spec_table.specs.Table.{build_call, read_call};
-ghost use Rattle.spec_c.specs.Reply.{with_value, status, reply};
+ghost use Rattle.spec_c.specs.CResult.{with_value, status, c_result};
 ghost use Rattle.spec_c.specs.Leaves.{CallLeaves};
 
-use crate::replies::{done, hand_back};
+use crate::results::{done, hand_back};
 use local_statistics::{Cell, Frame, Shift, Source, Window, build, read};
 
 // `table::build`: fills the area with the cumulative table of a plane.
@@ -23,7 +23,7 @@ pub extern "C" fn ls_build(
     plane: u32,
     table: &mut [i64],
 ) -> i32
-    ensures status { result ≡ status (reply with_value (build_call (source (frame rows columns) f.now g.now (shift down right) plane) table.old).answer) }
+    ensures status { result ≡ status (c_result with_value (build_call (source (frame rows columns) f.now g.now (shift down right) plane) table.old).answer) }
     ensures area { table.new ≡ (build_call (source (frame rows columns) f.now g.now (shift down right) plane) table.old).area }
 {
     let source = Source {
@@ -49,7 +49,7 @@ pub extern "C" fn ls_read(
     column: usize,
     sum: &mut i64,
 ) -> i32
-    ensures { CallLeaves (reply with_value (read_call (frame rows columns) table.now (window shape first second) row column)) sum.old result sum.new }
+    ensures { CallLeaves (c_result with_value (read_call (frame rows columns) table.now (window shape first second) row column)) sum.old result sum.new }
 {
     let frame = Frame { rows, columns };
     let window = Window {

@@ -8,7 +8,7 @@ ghost use Rattle.spec_picture.specs.Picture.{shift_legal};
 
 use spec_picture::{Shape, Shift};
 
-// low ≤ x ≤ high. std's method of a range: it has a name here, so that its promise in the words of the definitions stands once.
+// low ≤ x ≤ high. std's method of a range: it has a name here, so that its promise in the words of the definitions is stated once.
 pub fn is_between(low: i32, high: i32, x: i32) -> bool
     ensures { result ≡ between low high x }
 {

@@ -16,7 +16,7 @@ ghost use Rattle.spec_picture.specs.Conditions.{check3, picture_checks};
 
 use crate::legal_frames::{frame_legal, is_full};
 use crate::legal_windows::numbers_legal;
-use crate::levels::known;
+use crate::levels::levels_fit;
 use spec_picture::{
     CheckedPictures, CheckedSource, CheckedWindow, Frame, Plane, Refusal, Shape, Shift, Window,
 };
@@ -39,12 +39,12 @@ fn check_pictures<'a>(
     require(frame_legal(frame), Refusal::Size)?;
     require(is_full(frame, f.len()), Refusal::Length)?;
     require(is_full(frame, g.len()), Refusal::Length)?;
-    known(f);
-    known(g);
+    levels_fit(f);
+    levels_fit(g);
     Ok(CheckedPictures { frame, f, g })
 }
 
-// 3. A function and no `TryFrom<Window>`, which would have to stand beside the type in `spec_picture`, below the tests of the limits; and so `check_inputs`.
+// 3. A function and no `TryFrom<Window>`, which would have to be beside the type in `spec_picture`, below the tests of the limits; and so `check_inputs`.
 pub fn check_window(window: Window) -> Result<CheckedWindow, Refusal>
     ensures { outcome_by given result ≡ outcome (refusal (check3 window ∷ [])) window }
 {

@@ -28,7 +28,7 @@ fn levels_total(levels: &[i16]) -> i64
     i64::from(s)
 }
 
-// The sum of products of levels; wrapped, so that no bound is asked of them.
+// The sum of products of levels; wrapped, so that no bound is required of them.
 #[tactic(auto, using(numbers::proofs::Running::running_none))]
 fn products_total(a: &[i16], b: &[i16]) -> i64
     requires { length b.now ≡ length a.now }

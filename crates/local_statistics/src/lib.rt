@@ -1,4 +1,4 @@
-// What other crates may rest on: the public operations and their types. Each name stands in one crate below, and its promise with it.
+// What other crates may rest on: the public operations and their types. Each name is declared in one crate below, and its promise with it.
 #![tactic(auto)]
 
 // What a call is given: a frame, a cell of it, a window, a shift, a plane, and two pictures with them.
@@ -34,5 +34,5 @@ pub use smoothing::smooth;
 // The first steady cell.
 pub use steady_search::steady;
 
-// What the program panel prints for a text, and the room that the longest print takes.
+// What the program panel prints for a text, and the length that the longest print needs.
 pub use panel_text::{ROOM, render};

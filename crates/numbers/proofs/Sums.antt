@@ -122,7 +122,7 @@ sum_more n p f = go (dec_lt p n)
         let e : min (suc p) n ≡ min p n = omega arith in
         rw (e, pick_out p n (f p) (omega arith), +ℤ_idr)
 
--- the same before a distance below i: where i is less than r, none is left behind
+-- the same before a distance below i: where i is less than r, none leaves
 pub sum_less : (n i r : ℕ) (f : ℕ → ℤ) → sum_to (min (suc i - r) n) f ≡ sum_to (min (i - r) n) f +ℤ pick (leb r i) (pick (ltb (i - r) n) (f (i - r)))
 sum_less n i r f = go (dec_lt i r)
   where
@@ -137,7 +137,7 @@ sum_less n i r f = go (dec_lt i r)
 step4 : (a b c d : ℤ) → (a +ℤ b) -ℤ (c +ℤ d) ≡ (a -ℤ c) +ℤ (b -ℤ d)
 step4 a b c d = ring (search (sums, any a, any b, any c, any d)) (omega arith)
 
--- the centre moves by one: one value comes in, and one is left behind
+-- the centre moves by one: one value enters, and one leaves
 pub near_step : (n i r : ℕ) (f : ℕ → ℤ) →
     sum_to n (λ k. pick (leb (dist (suc i) k) r) (f k)) ≡ sum_to n (λ k. pick (leb (dist i k) r) (f k)) +ℤ (pick (ltb (suc i + r) n) (f (suc i + r)) -ℤ pick (leb r i) (pick (ltb (i - r) n) (f (i - r))))
 near_step n i r f =
@@ -145,7 +145,7 @@ near_step n i r f =
     rw (sum_near n (suc i) r f, sum_near n i r f, sum_more n (suc i + r) f, sum_less n i r f, e)
     (step4 (sum_to (min (suc i + r) n) f) (pick (ltb (suc i + r) n) (f (suc i + r))) (sum_to (min (i - r) n) f) (pick (leb r i) (pick (ltb (i - r) n) (f (i - r)))))
 
--- what comes in less what is left behind where the centre moves to i, among n values
+-- what enters less what leaves where the centre moves to i, among n values
 abbrev pub near-change : (n r : ℕ) (f : ℕ → ℤ) → ℕ → ℤ
 near-change n r f i = pick (ltb (i + r) n) (f (i + r)) -ℤ pick (leb (suc r) i) (pick (ltb (i - suc r) n) (f (i - suc r)))
 
@@ -162,7 +162,7 @@ ends-moved n r (suc m) f =
     ∙ ap (λ (z : ℤ). z +ℤ near-change n r f m) (ends-moved n r m f)
     ∙ +ℤ_assoc (sum_to (min r n) f) (sum_to m (near-change n r f)) (near-change n r f m))
 
--- the values at most r from j: the first r, and what came in less what was left behind as the centre moved from 0 to j
+-- the values at most r from j: the first r, and what entered less what left as the centre moved from 0 to j
 pub near-moved : (n j r : ℕ) (f : ℕ → ℤ) → sum_to n (λ k. pick (leb (dist j k) r) (f k)) ≡ sum_to (min r n) f +ℤ sum_to (j + 1) (near-change n r f)
 near-moved n j r f =
     let e : min (suc (j + r)) n ≡ min (j + 1 + r) n = omega arith in

@@ -5,13 +5,13 @@ use Rattle.std.specs.Io.KnownBytes.{Consumes, IsAtEnd, Appends}
 use lib.Seq.{take-append-le}
 use Rattle.spec_picture.specs.Refusal.{refused}
 use Rattle.spec_panel.specs.Text.{runs, number}
-use Rattle.spec_panel.specs.Panel.{parsed, sized, shown, panel}
+use Rattle.spec_panel.specs.Panel.{parsed, sized, output_of, panel}
 use Rattle.panel_text.specs.Rendered.{Rendering, rendered}
 
 -- a text that is too long is refused, whatever it holds
-pub panel-long : (text : List ℕ) → 65536 < length text → panel text ≡ shown (refused 10)
+pub panel-long : (text : List ℕ) → 65536 < length text → panel text ≡ output_of (refused 10)
 unfolding panel parsed
-panel-long text h = ap (λ (b : Bool). shown (elim b [ true ↦ refused 10 | false ↦ sized (map number (runs text)) ])) (lt-ltb 65536 (length text) h)
+panel-long text h = ap (λ (b : Bool). output_of (elim b [ true ↦ refused 10 | false ↦ sized (map number (runs text)) ])) (lt-ltb 65536 (length text) h)
 
 -- the front of the area is the output
 abbrev laid : (text out : List ℕ) → Bool → Rendering

@@ -30,9 +30,9 @@ fn read_full<R: Read>(from: &mut R, text: &mut [u8]) -> io::Result<usize>
 fn run<R: Read, W: Write>(from: &mut R, to: &mut W) -> io::Result<()>
     ensures { OnOk result (IfSome (R.remaining from.old) (λ text. Appends (W.contents to.old) (W.contents to.new) (panel text))) }
 {
-    // Room for the longest input that is taken, and for one byte more, which tells a longer input.
+    // A buffer for the longest input that is accepted, and for one byte more, which shows that an input is longer.
     let mut text = panel_text::area::<u8, 65537>();
-    // Room for the longest output.
+    // A buffer for the longest output.
     let mut out = panel_text::area::<u8, { panel_text::ROOM }>();
     let n = read_full(from, &mut text)?;
     let count = panel_text::render(&text[..n], &mut out);

@@ -25,8 +25,8 @@ use Rattle.spec_picture.proofs.Refusals.{in-limits}
 use Rattle.numbers.proofs.Tests.{and_right}
 use Rattle.spec_panel.specs.Text.{runs, number as number_of}
 use Rattle.spec_panel.specs.Panel.{count_of, panel_frame, levels_of, windowed, filled, sized, parsed}
-use Rattle.panel_text.specs.Levels.{levels_told}
-use Rattle.panel_text.specs.Read.{no_number, NumberIs, FrameIs, WindowIs, Roomy}
+use Rattle.panel_text.specs.Levels.{levels_if_read}
+use Rattle.panel_text.specs.Read.{no_number, NumberIs, FrameIs, WindowIs, PictureRequires}
 
 -- ---- the frame
 sized-no-rows : (ns : List (Option ℤ)) → T (no_number ns) → sized ns ≡ refused 10
@@ -141,13 +141,13 @@ pub cells-few : (z : Frame) → T (panel_frame z) → cells z ≤ 4096
 unfolding panel_frame
 cells-few z t = leb→le (cells z) 4096 (and_right (frame_legal z) (leb (cells z) 4096) t)
 
-pub roomy : {ns after : List (Option ℤ)} {z : Frame} {area : List ℤ} → FrameIs ns (Ok z) after → 4096 ≤ length area → Roomy z area
-roomy s h = record { legal = s.legal; room = h }
+pub picture-required : {ns after : List (Option ℤ)} {z : Frame} {area : List ℤ} → FrameIs ns (Ok z) after → 4096 ≤ length area → PictureRequires z area
+picture-required s h = record { legal = s.legal; room = h }
 
-pub cells-room : (z : Frame) (area : List ℤ) → Roomy z area → cells z ≤ length area
+pub cells-room : (z : Frame) (area : List ℤ) → PictureRequires z area → cells z ≤ length area
 cells-room z area r = omega (arith, cells-few z r.legal, r.room)
 
-pub cells-part : (z : Frame) (area : List ℤ) → Roomy z area → length (take (cells z) area) ≡ cells z
+pub cells-part : (z : Frame) (area : List ℤ) → PictureRequires z area → length (take (cells z) area) ≡ cells z
 cells-part z area r = length-take-le (cells z) area (cells-room z area r)
 
 -- ---- a number that counts
@@ -182,26 +182,26 @@ module _ (text : List ℕ) (h : length text ≤ 65536) (ns after : List (Option 
     pub no-window : (e : Refusal) → WindowIs after (Err e) left → parsed text ≡ refused (number e)
     no-window e w = frame-read ∙ w.same z
 
-    module _ (w : Window) (seen : WindowIs after (Ok w) left) (area : List ℤ) (room : Roomy z area) (read : List ℤ) where
+    module _ (w : Window) (seen : WindowIs after (Ok w) left) (area : List ℤ) (room : PictureRequires z area) (read : List ℤ) where
       -- what reading the levels answers
-      windowed-read : (r : Option Unit) → levels_of (length (take (cells z) area)) left ≡ levels_told r read → parsed text ≡ windowed z w (levels_told r read)
+      windowed-read : (r : Option Unit) → levels_of (length (take (cells z) area)) left ≡ levels_if_read r read → parsed text ≡ windowed z w (levels_if_read r read)
       windowed-read r e = frame-read ∙ seen.same z ∙ ap (windowed z w) (ap (λ n. levels_of n left) (sym (cells-part z area room)) ∙ e)
 
-      pub no-levels : (r : Option Unit) (e : Refusal) → levels_of (length (take (cells z) area)) left ≡ levels_told r read → Err e ≡ ok_or r line.Text → parsed text ≡ refused (number e)
+      pub no-levels : (r : Option Unit) (e : Refusal) → levels_of (length (take (cells z) area)) left ≡ levels_if_read r read → Err e ≡ ok_or r line.Text → parsed text ≡ refused (number e)
       no-levels None e l i = windowed-read None l ∙ windowed-none z w ∙ ap (λ x. refused (number x)) (text-is e i)
         where
           text-is : (e : Refusal) → ◌≡◌ {A = Result Unit Refusal} (Err e) (Err line.Text) → line.Text ≡ e
           text-is e i = cc
       no-levels (Some u) e l i = absurd cc
 
-      module _ (r : Option Unit) (l : levels_of (length (take (cells z) area)) left ≡ levels_told r read) (u : Unit) (some : r ≡ Some u) where
+      module _ (r : Option Unit) (l : levels_of (length (take (cells z) area)) left ≡ levels_if_read r read) (u : Unit) (some : r ≡ Some u) where
         levels-read : parsed text ≡ windowed z w (Some read)
-        levels-read = windowed-read r l ∙ ap (λ x. windowed z w (levels_told x read)) some
+        levels-read = windowed-read r l ∙ ap (λ x. windowed z w (levels_if_read x read)) some
 
         pub window-beyond : window_legal w ≡ false → parsed text ≡ refused 3
         window-beyond e = levels-read ∙ by-window z w read false e
 
-        pub picture-taken : window_legal w ≡ true → (rest : List ℤ) → length read ≡ length (take (cells z) area) → parsed text ≡ answered (record { frame = z; window = w; levels = take (cells z) (read ++ rest) })
-        picture-taken e rest size =
+        pub picture-accepted : window_legal w ≡ true → (rest : List ℤ) → length read ≡ length (take (cells z) area) → parsed text ≡ answered (record { frame = z; window = w; levels = take (cells z) (read ++ rest) })
+        picture-accepted e rest size =
             levels-read ∙ by-window z w read true e ∙
             ap (λ (m : List ℤ). answered (record { frame = z; window = w; levels = m })) (sym (take_at read rest (cells z) (size ∙ cells-part z area room)))

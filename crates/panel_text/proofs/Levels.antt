@@ -6,7 +6,7 @@ use Rattle.std.specs.Bool.{then_some}
 use Rattle.std.specs.Result.{OkIff, result_ok}
 use Rattle.std.specs.Iterator.{YieldsFirst}
 use Rattle.std.proofs.lemmas.Bool.{false≢true, false_from_ne_true}
-use Rattle.panel_text.specs.Levels.{levels_told}
+use Rattle.panel_text.specs.Levels.{levels_if_read}
 use lib.Seq.{take-suc-set, take_all, append_snoc}
 use Rattle.spec_panel.specs.Panel.{is_level, levels_of}
 
@@ -119,7 +119,7 @@ module _ (all : List (Option ℤ)) (old now : List ℤ) (left : List (Option ℤ
     levels-all e = last ∙ ap (onto now) (ap (levels_of 0) e ∙ all_read) ∙ ap Some (append-nil now)
 
     -- nothing follows, or something does
-    pub levels-last : (o : Option (Option ℤ)) (rest : List (Option ℤ)) → YieldsFirst (λ s. s) left o rest → (b : Bool) → is_some o ≡ not b → levels_of (length old) all ≡ levels_told (then_some b tt) now
+    pub levels-last : (o : Option (Option ℤ)) (rest : List (Option ℤ)) → YieldsFirst (λ s. s) left o rest → (b : Bool) → is_some o ≡ not b → levels_of (length old) all ≡ levels_if_read (then_some b tt) now
     levels-last None rest e true i = levels-all e.0
     levels-last None rest e false i = absurd (false≢true i)
     levels-last (Some n) rest e true i = absurd (false≢true (sym i))

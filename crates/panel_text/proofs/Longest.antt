@@ -22,7 +22,7 @@ use Rattle.spec_picture.proofs.Refusals.{in-limits}
 use Rattle.spec_smoothing.specs.Smoothing.{smoothed}
 use Rattle.spec_smoothing.proofs.Means.{mean-level, smoothed-at}
 use Rattle.spec_panel.specs.Text.{space, line_feed, runs, number, decimal, printed}
-use Rattle.spec_panel.specs.Panel.{Drawing, count_of, panel_frame, levels_of, windowed, filled, sized, parsed, line_of, lines_of, shown, panel}
+use Rattle.spec_panel.specs.Panel.{Drawing, count_of, panel_frame, levels_of, windowed, filled, sized, parsed, line_of, lines_of, output_of, panel}
 use Rattle.panel_text.specs.Print.{value_at}
 use Rattle.panel_text.specs.Rendered.{Rendering, rendered}
 use Rattle.spec_panel.proofs.Legal.{Legal, parsed-legal}
@@ -91,8 +91,8 @@ lines-length f i (suc n) c s =
     let rest = lines-length f (suc i) n c (λ k l. let e : suc i + k ≡ i + suc k = omega arith in rw e (s (suc k) (omega arith))) in
     omega (arith, length-append (line_of (f i) c) (lines_of f (suc i) n c), first, rest, suc-mul n c)
 
-refused-length : (n : ℕ) → n ≤ 10 → length (shown (refused n)) ≤ 28672
-unfolding shown
+refused-length : (n : ℕ) → n ≤ 10 → length (output_of (refused n)) ≤ 28672
+unfolding output_of
 refused-length n h = omega (arith, length-append (decimal n) (line_feed ∷ []), few-digits 1 n (omega arith) (omega arith))
 
 module _ (d : Drawing) (l : Legal d) where
@@ -105,9 +105,9 @@ module _ (d : Drawing) (l : Legal d) where
       let f : SFits w16 (value_at d.frame.columns means i j) = record { sfits = rw e (mean-level d.frame d.levels d.window l.levels i j hi hj) } in
       level-bytes (value_at d.frame.columns means i j) f
 
-  shown-length : length (shown (answered d)) ≤ 28672
-  unfolding shown
-  shown-length =
+  output-length : length (output_of (answered d)) ≤ 28672
+  unfolding output_of
+  output-length =
       let c = d.frame.columns in
       let few = cells-few d.frame l.frame in
       let some_columns = (in-limits d.frame (in_frame d.frame l.frame)).some_columns in
@@ -117,9 +117,9 @@ module _ (d : Drawing) (l : Legal d) where
             (λ k h. let e : 0 + k ≡ k = omega arith in rw e (line-length (value_at c means k) c some_columns (λ j g. mean-bytes k j h g))),
       )
 
-outcome-length : (o : Outcome Drawing) → Small o → ((d : Drawing) → o ≡ answered d → Legal d) → length (shown o) ≤ 28672
+outcome-length : (o : Outcome Drawing) → Small o → ((d : Drawing) → o ≡ answered d → Legal d) → length (output_of o) ≤ 28672
 outcome-length (refused n) s h = refused-length n s
-outcome-length (answered d) s h = shown-length d (h d refl)
+outcome-length (answered d) s h = output-length d (h d refl)
 
 pub panel-length : (text : List ℕ) → length (panel text) ≤ 28672
 unfolding panel

@@ -1,4 +1,4 @@
--- A picture that was taken is not refused by smoothing, and its lines are what panel shows; an output that stands at the front of its area.
+-- A picture that was accepted is not refused by smoothing, and its lines are what panel prints; an output at the front of its area.
 -- Assumes nothing.
 use mathlib.Core.Path.{◌≡◌, sym, ◌∙◌, ap, subst}
 use Prim.Native.Nat.{ℕ, ◌≤◌, ◌<◌}
@@ -23,10 +23,10 @@ use Rattle.spec_smoothing.proofs.Means.{smooth-writes}
 use Rattle.std.specs.Prelude.{Result, Ok, Err}
 use Rattle.spec_picture.specs.Answers.{number}
 use Rattle.spec_picture.specs.declared.Refusal.{Refusal}
-use Rattle.spec_panel.specs.Panel.{panel_frame, lines_of, refused_line, parsed, shown, panel}
-use Rattle.panel_text.specs.Read.{drawn}
+use Rattle.spec_panel.specs.Panel.{panel_frame, lines_of, refused_line, parsed, output_of, panel}
+use Rattle.panel_text.specs.Read.{parse_outcome}
 use Rattle.panel_text.specs.Print.{Fitted, value_at, LinesRoom}
-use Rattle.panel_text.specs.Shown.{Showable}
+use Rattle.panel_text.specs.Requires.{ShowRequires}
 use Rattle.panel_text.specs.Rendered.{Rendering, rendered}
 use Rattle.spec_panel.proofs.Legal.{parsed-legal}
 use Rattle.panel_text.proofs.Drawings.{cells-few, cells-part}
@@ -35,7 +35,7 @@ pub in_frame : (z : Frame) → T (panel_frame z) → T (frame_legal z)
 unfolding panel_frame
 in_frame z t = and_left (frame_legal z) (leb (cells z) 4096) t
 
-module _ (z : Frame) (w : Window) (levels : List ℤ) (out : List ℕ) (s : Showable z w levels out) where
+module _ (z : Frame) (w : Window) (levels : List ℤ) (out : List ℕ) (s : ShowRequires z w levels out) where
   pub show-cells : cells z ≤ 4096
   show-cells = cells-few z s.picture.legal
 
@@ -72,12 +72,12 @@ module _ (z : Frame) (w : Window) (levels : List ℤ) (out : List ℕ) (s : Show
     means-are : take (cells z) (new ++ rest) ≡ smoothed z (take (cells z) levels) w
     means-are = take_at new rest (cells z) new-full ∙ e ∙ ap (λ (f : Filling). f.area) (smooth-writes z (take (cells z) levels) w (take (cells z) area) (smooth-passes (take (cells z) area) (sym (area-part area full))))
 
-    lines-shown : lines_of (value_at z.columns (take (cells z) (new ++ rest))) 0 z.rows z.columns ≡ shown (drawn (Ok (z, w)) levels)
-    unfolding shown
-    lines-shown = ap (λ (m : List ℤ). lines_of (value_at z.columns m) 0 z.rows z.columns) means-are
+    lines-output : lines_of (value_at z.columns (take (cells z) (new ++ rest))) 0 z.rows z.columns ≡ output_of (parse_outcome (Ok (z, w)) levels)
+    unfolding output_of
+    lines-output = ap (λ (m : List ℤ). lines_of (value_at z.columns m) 0 z.rows z.columns) means-are
 
-    pub show-fitted : (newer : List ℕ) (end : ℕ) → Fitted (lines_of (value_at z.columns (take (cells z) (new ++ rest))) 0 z.rows z.columns) out newer end → Fitted (shown (drawn (Ok (z, w)) levels)) out newer end
-    show-fitted newer end f = subst (λ (b : List ℕ). Fitted b out newer end) lines-shown f
+    pub show-fitted : (newer : List ℕ) (end : ℕ) → Fitted (lines_of (value_at z.columns (take (cells z) (new ++ rest))) 0 z.rows z.columns) out newer end → Fitted (output_of (parse_outcome (Ok (z, w)) levels)) out newer end
+    show-fitted newer end f = subst (λ (b : List ℕ). Fitted b out newer end) lines-output f
 
 -- ---- the whole
 module _ (text old : List ℕ) where
@@ -91,24 +91,24 @@ module _ (text old : List ℕ) where
       let e = by-room true (lt-ltb (length old) 28672 h) in
       (sym (ap (λ (r : Rendering). r.count) e), sym (ap (λ (r : Rendering). r.area) e))
 
-  module _ (h : 28672 ≤ length old) (r : Result (Frame × Window) Refusal) (levels : List ℤ) (p : parsed text ≡ drawn r levels) where
-    pub legal-show : (z : Frame) (w : Window) → r ≡ Ok (z, w) → 4096 ≤ length levels → Showable z w levels old
+  module _ (h : 28672 ≤ length old) (r : Result (Frame × Window) Refusal) (levels : List ℤ) (p : parsed text ≡ parse_outcome r levels) where
+    pub legal-show : (z : Frame) (w : Window) → r ≡ Ok (z, w) → 4096 ≤ length levels → ShowRequires z w levels old
     legal-show z w is full =
-        let l = parsed-legal text (record { frame = z; window = w; levels = take (cells z) levels }) (p ∙ ap (λ (x : Result (Frame × Window) Refusal). drawn x levels) is) in
+        let l = parsed-legal text (record { frame = z; window = w; levels = take (cells z) levels }) (p ∙ ap (λ (x : Result (Frame × Window) Refusal). parse_outcome x levels) is) in
         record { picture = record { legal = l.frame; room = full }; window = l.window; room = h }
 
-    panel-is : panel text ≡ shown (drawn r levels)
+    panel-is : panel text ≡ output_of (parse_outcome r levels)
     unfolding panel
-    panel-is = ap shown p
+    panel-is = ap output_of p
 
-    pub panel-rendered : (x : Result (Frame × Window) Refusal) → r ≡ x → (new : List ℕ) (end : ℕ) → Fitted (shown (drawn x levels)) old new end → (end ≡ (rendered text old).count) × (new ≡ (rendered text old).area)
+    pub panel-rendered : (x : Result (Frame × Window) Refusal) → r ≡ x → (new : List ℕ) (end : ℕ) → Fitted (output_of (parse_outcome x levels)) old new end → (end ≡ (rendered text old).count) × (new ≡ (rendered text old).area)
     panel-rendered x is new end f =
         let e = by-room false (le-ltb (length old) 28672 h) in
-        let b : shown (drawn x levels) ≡ panel text = ap (λ (y : Result (Frame × Window) Refusal). shown (drawn y levels)) (sym is) ∙ sym panel-is in
+        let b : output_of (parse_outcome x levels) ≡ panel text = ap (λ (y : Result (Frame × Window) Refusal). output_of (parse_outcome y levels)) (sym is) ∙ sym panel-is in
         let g : Fitted (panel text) old new end = subst (λ (l : List ℕ). Fitted l old new end) b f in
         let a : new ≡ (rendered text old).area = g.written.area ∙ ap (λ (k : ℕ). panel text ++ drop k old) g.written.counted ∙ sym (ap (λ (r : Rendering). r.area) e) in
         (g.written.counted ∙ sym (ap (λ (r : Rendering). r.count) e), a)
 
-pub refused-fitted : (e : Refusal) (levels : List ℤ) (old new : List ℕ) (end : ℕ) → Fitted (refused_line (number e)) old new end → Fitted (shown (drawn (Err e) levels)) old new end
-unfolding shown
+pub refused-fitted : (e : Refusal) (levels : List ℤ) (old new : List ℕ) (end : ℕ) → Fitted (refused_line (number e)) old new end → Fitted (output_of (parse_outcome (Err e) levels)) old new end
+unfolding output_of
 refused-fitted e levels old new end f = f

@@ -1,4 +1,4 @@
--- What the code that prints means: bytes written to the front of an area, and the room for them.
+-- What the code that prints means: bytes written to the front of an area, and how many it holds.
 -- Assumes nothing.
 use Rattle.std.specs.Prelude.{◌≡◌, ℕ, ◌+◌, ◌*◌, ◌≤◌, List, ◌++◌, length, drop, get_or, ℤ, pos}
 use Rattle.spec_picture.specs.declared.Frame.{Frame}

@@ -7,7 +7,7 @@ pub record Rendering : Type 0 where
   pub count : ℕ
   pub area : List ℕ
 
--- 28,672 bytes hold the longest output: 4,096 cells, a mean at most 6 bytes, `-32768`, and a byte after each. The output stands at the
+-- 28,672 bytes hold the longest output: 4,096 cells, a mean at most 6 bytes, `-32768`, and a byte after each. The output is at the
 -- front of the area, whose rest keeps its bytes; a shorter area keeps all of them, and 0 is answered.
 unfoldable pub rendered : (text out : List ℕ) → Rendering
 rendered text out =

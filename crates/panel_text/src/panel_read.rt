@@ -2,7 +2,7 @@
 
 ghost use Rattle.std.specs.Prelude.{◌≡◌, ◌≤◌, length};
 ghost use Rattle.spec_panel.specs.Panel.{count_of, panel_frame, parsed};
-ghost use Rattle.panel_text.specs.Read.{NumberIs, FrameIs, WindowIs, drawn};
+ghost use Rattle.panel_text.specs.Read.{NumberIs, FrameIs, WindowIs, parse_outcome};
 
 use crate::panel_levels::read_levels;
 use crate::panel_scan::Numbers;
@@ -23,7 +23,7 @@ fn frame_legal(frame: Frame) -> bool
     legal_frames::frame_legal(frame) && frame.rows * frame.columns <= 4096
 }
 
-// The number that stands next: "malformed or missing, 10".
+// The next number: "malformed or missing, 10".
 fn read_number(numbers: &mut Numbers) -> Result<i32, Refusal>
     ensures { NumberIs numbers.old result numbers.new }
 {
@@ -61,7 +61,7 @@ fn read_window(numbers: &mut Numbers) -> Result<Window, Refusal>
 // `smoothing::smooth`, for which they are read, checks what any caller gives.
 pub fn parse(text: &[u8], levels: &mut [i16]) -> Result<(Frame, Window), Refusal>
     requires { 4096 ≤ length levels.old }
-    ensures { parsed text.now ≡ drawn result levels.new }
+    ensures { parsed text.now ≡ parse_outcome result levels.new }
 {
     if text.len() > 65536 {
         return Err(Refusal::Text);

@@ -59,9 +59,9 @@ module _ (x : Source) (rows columns : Overlap) (c : Counting x.frame x.shift row
         (and_both there beside (rw (c.by_row.counts m m<) (among rows.first rows.end m from_row upto_row)) (rw (c.by_column.counts n n<) (among columns.first columns.end n from upto)))
 
     -- a cell that counts
-    pub value-there : plane_at x m n ≡ plane_value x.plane (at x.f (m * x.frame.columns + n)) (at x.g ((rows.other + (m - rows.first)) * x.frame.columns + (columns.other + (n - columns.first))))
+    pub value-there : plane_at x m n ≡ plane_value x.plane (at x.f (m * x.frame.columns + n)) (at x.g ((rows.first_in_g + (m - rows.first)) * x.frame.columns + (columns.first_in_g + (n - columns.first))))
     unfolding plane_at
     value-there =
         pick_yes (counts x m n) _ counted
         ∙ ap (λ (r : ℕ). plane_value x.plane (at x.f (m * x.frame.columns + n)) (at x.g (r * x.frame.columns + nat_abs (pos n +ℤ x.shift.right)))) (c.by_row.place m from_row upto_row)
-        ∙ ap (λ (k : ℕ). plane_value x.plane (at x.f (m * x.frame.columns + n)) (at x.g ((rows.other + (m - rows.first)) * x.frame.columns + k))) (c.by_column.place n from upto)
+        ∙ ap (λ (k : ℕ). plane_value x.plane (at x.f (m * x.frame.columns + n)) (at x.g ((rows.first_in_g + (m - rows.first)) * x.frame.columns + k))) (c.by_column.place n from upto)

@@ -66,12 +66,12 @@ module _ (x : Source) (rows columns : Overlap) (c : Counting x.frame x.shift row
         ∙ sym (value-there (on_factor x F) rows columns c m (start + k) from_row upto_row (omega (arith, a.from)) (omega (arith, a.upto))))
 
     abbrev begin : ℕ
-    begin = (rows.other + (m - rows.first)) * width + columns.other
+    begin = (rows.first_in_g + (m - rows.first)) * width + columns.first_in_g
 
     pub g-ends : length x.g ≡ cells x.frame → begin + (end - columns.first) ≤ length x.g
     g-ends size =
-        let row : rows.other + (m - rows.first) < x.frame.rows = omega (arith, from_row, upto_row, c.by_row.other_within) in
-        omega (arith, size, a.upto, c.by_column.other_within, row-end (rows.other + (m - rows.first)) x.frame.rows width row)
+        let row : rows.first_in_g + (m - rows.first) < x.frame.rows = omega (arith, from_row, upto_row, c.by_row.within_g) in
+        omega (arith, size, a.upto, c.by_column.within_g, row-end (rows.first_in_g + (m - rows.first)) x.frame.rows width row)
 
     pub g-there : length x.g ≡ cells x.frame → take (begin + (end - columns.first) - (begin + (start - columns.first))) (drop (begin + (start - columns.first)) x.g) ≡ tabulate (end - start) (λ k. plane_at (on_factor x G) m (start + k))
     unfolding plane_value
@@ -82,7 +82,7 @@ module _ (x : Source) (rows columns : Overlap) (c : Counting x.frame x.shift row
         let n : hi - lo ≡ end - start = omega (arith, a.ordered, a.from) in
         is-tabulate _ (end - start) _ (slice-length lo hi x.g o (g-ends size) ∙ n)
         (λ k k<.
-        let place : lo + k ≡ (rows.other + (m - rows.first)) * width + (columns.other + (start + k - columns.first)) = omega (arith, a.from) in
+        let place : lo + k ≡ (rows.first_in_g + (m - rows.first)) * width + (columns.first_in_g + (start + k - columns.first)) = omega (arith, a.from) in
         slice_at lo hi x.g o (g-ends size) k (omega (arith, n)) ∙ ap (at x.g) place
         ∙ sym (value-there (on_factor x G) rows columns c m (start + k) from_row upto_row (omega (arith, a.from)) (omega (arith, a.upto))))
 

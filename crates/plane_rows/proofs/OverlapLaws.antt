@@ -44,8 +44,8 @@ module _ (lo hi k : ℕ) where
       let t : T test = rw (← is, all) tt in
       (among-from t, among-upto t)
 
-abbrev overlap : (first end other : ℕ) → first ≤ end → Overlap
-overlap first end other p = record { first = first; end = end; other = other; ordered = p }
+abbrev overlap : (first end first_in_g : ℕ) → first ≤ end → Overlap
+overlap first end first_in_g p = record { first = first; end = end; first_in_g = first_in_g; ordered = p }
 
 -- ---- a place k that is shifted by d
 on : (n k d : ℕ) → in_range n (pos k +ℤ pos d) ≡ ltb (k + d) n
@@ -75,11 +75,11 @@ back n k d = go (dec_lt k d)
 no_place : (k : ℕ) → (leb 0 k && ltb k 0) ≡ false
 no_place k = off (leb 0 k && ltb k 0) (λ t. omega (arith, among-upto 0 0 k t))
 
--- ---- the three cases of the code: no place counts, g lies before, g lies behind
+-- ---- the three cases of the code: no place counts, g lies before, g lies after
 pub overlap-none : (n : ℕ) (d : ℤ) (far : ℕ) → far ≡ nat_abs d → n ≤ far → (p : 0 ≤ 0) → Overlapping n d (overlap 0 0 0 p)
 overlap-none n d far e h p = record {
   within = omega arith;
-  other_within = omega arith;
+  within_g = omega arith;
   counts = λ k k<. none d (omega (arith, e)) k k< ∙ sym (no_place k);
   place = λ k a b. absurd (omega arith);
 }
@@ -92,23 +92,23 @@ pub overlap-before : (n : ℕ) (d : ℤ) (far : ℕ) → far ≡ nat_abs d → f
 overlap-before n (pos d) far e h t = absurd (omega (arith, ltb→lt d 0 (rw t tt)))
 overlap-before n (negsuc d) far e h t = rw e (λ p. record {
   within = omega arith;
-  other_within = omega arith;
+  within_g = omega arith;
   counts = λ k k<. back n k (suc d) ∙ same_test (leb (suc d) k && ltb k (n + suc d)) (leb (suc d) k && ltb k n)
       (λ t. among (suc d) n k (among-from (suc d) (n + suc d) k t) k<)
       (λ t. among (suc d) (n + suc d) k (among-from (suc d) n k t) (omega arith));
   place = λ k a b. ap nat_abs (sub-high k (suc d) a) ∙ omega arith;
 })
 
-pub overlap-behind : (n : ℕ) (d : ℤ) (far : ℕ) → far ≡ nat_abs d → far < n → lt_z d (pos 0) ≡ false → (p : 0 ≤ n - far) → Overlapping n d (overlap 0 (n - far) far p)
-overlap-behind n (pos d) far e h t = rw e (λ p. record {
+pub overlap-after : (n : ℕ) (d : ℤ) (far : ℕ) → far ≡ nat_abs d → far < n → lt_z d (pos 0) ≡ false → (p : 0 ≤ n - far) → Overlapping n d (overlap 0 (n - far) far p)
+overlap-after n (pos d) far e h t = rw e (λ p. record {
   within = omega arith;
-  other_within = omega (arith, e);
+  within_g = omega (arith, e);
   counts = λ k k<. on n k d ∙ same_test (ltb (k + d) n) (leb 0 k && ltb k (n - d))
       (λ t. among 0 (n - d) k (omega arith) (omega (arith, ltb→lt (k + d) n t)))
       (λ t. lt→ltb (k + d) n (omega (arith, among-upto 0 (n - d) k t)));
   place = λ k a b. omega arith;
 })
-overlap-behind n (negsuc d) far e h t = absurd (true≢false t)
+overlap-after n (negsuc d) far e h t = absurd (true≢false t)
 
 -- a call's answer, which speaks of the shift's bits, by the shift itself
 pub by_shift : {n : ℕ} {d : ℤ} {o : Overlap} → SFits w32 d → Overlapping n (to_z w32 (of_z w32 d)) o → Overlapping n d o

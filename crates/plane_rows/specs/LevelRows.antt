@@ -1,4 +1,4 @@
--- A part of a row of a plane, and what the functions of level rows ask.
+-- A part of a row of a plane, and what the functions of level rows require.
 -- Assumes nothing.
 use Rattle.std.specs.Prelude.{◌≡◌, ℕ, ◌+◌, ◌≤◌, ◌<◌, List, length, get_or, ℤ, pos}
 use Rattle.plane_rows.specs.declared.overlaps.overlap.Overlap.{Overlap}

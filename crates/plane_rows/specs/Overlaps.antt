@@ -4,9 +4,9 @@ use Rattle.std.specs.Prelude.{◌≡◌, ℕ, ◌+◌, ◌-◌, ◌≤◌, ◌<�
 use Rattle.plane_rows.specs.declared.overlaps.overlap.Overlap.{Overlap}
 use Rattle.spec_picture.specs.Frame.{in_range}
 
--- the places from `first` up to `end` are those of the n places k for which k + d is one of them too, and k + d is as far from `other` as k is from `first`
+-- the places from `first` up to `end` are those of the n places k for which k + d is one of them too, and k + d is as far from `first_in_g` as k is from `first`
 pub record Overlapping (n : ℕ) (d : ℤ) (o : Overlap) : Type 0 where
   pub within : o.end ≤ n
-  pub other_within : o.other + (o.end - o.first) ≤ n
+  pub within_g : o.first_in_g + (o.end - o.first) ≤ n
   pub counts : (k : ℕ) → k < n → in_range n (pos k +ℤ d) ≡ (leb o.first k && ltb k o.end)
-  pub place : (k : ℕ) → o.first ≤ k → k < o.end → nat_abs (pos k +ℤ d) ≡ o.other + (k - o.first)
+  pub place : (k : ℕ) → o.first ≤ k → k < o.end → nat_abs (pos k +ℤ d) ≡ o.first_in_g + (k - o.first)

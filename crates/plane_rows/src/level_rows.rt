@@ -52,8 +52,8 @@ pub fn part<'a>(view: &View<'a>, factor: Factor, row: usize, start: usize, end: 
             &view.source.f[first + start..first + end]
         }
         Factor::G => {
-            let row_of_g = view.rows.other + (row - view.rows.first);
-            let first = row_of_g * width + view.columns.other;
+            let row_of_g = view.rows.first_in_g + (row - view.rows.first);
+            let first = row_of_g * width + view.columns.first_in_g;
             let before = view.columns.first;
             &view.source.g[first + (start - before)..first + (end - before)]
         }

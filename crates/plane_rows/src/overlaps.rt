@@ -17,19 +17,19 @@ pub fn overlap_of(n: usize, by: i32) -> Overlap
         return Overlap {
             first: 0,
             end: 0,
-            other: 0,
+            first_in_g: 0,
         };
     }
     if by < 0 {
         return Overlap {
             first: far,
             end: n,
-            other: 0,
+            first_in_g: 0,
         };
     }
     Overlap {
         first: 0,
         end: n - far,
-        other: far,
+        first_in_g: far,
     }
 }

@@ -25,7 +25,7 @@ pub fn widen(levels: &[i16], out: &mut [i64])
     }
 }
 
-// Products of levels. A loop of its own: one loop for both kinds, with a closure as in `row_loops::exchange_loops::add_each`, is no plainer, since it takes a record of
+// Products of levels. A loop of its own: one loop for both kinds, with a closure as in `row_loops::entering_loops::add_each`, is no plainer, since it takes a record of
 // what was written, lemmas of that record and an answer for each closure.
 pub fn multiply(a: &[i16], b: &[i16], out: &mut [i64])
     requires { (length a.now ≡ length out.old) × (length b.now ≡ length out.old) }

@@ -19,8 +19,8 @@ use Rattle.row_loops.specs.Added.{Numbers}
 
 -- ---- the columns that count: what enters less what leaves, in other words
 module _ (sums out : List ℤ) (f g : ℕ → ℤ) (e : out ≡ tabulate (length sums) (λ k. wrap (at sums k +ℤ f k))) (same : (k : ℕ) → k < length sums → f k ≡ g k) where
-  pub gained : out ≡ tabulate (length sums) (λ k. wrap (at sums k +ℤ g k))
-  gained = e ∙ tabulate-cong (length sums) _ _ (λ k k<. ap (λ (z : ℤ). wrap (at sums k +ℤ z)) (same k k<))
+  pub added-same : out ≡ tabulate (length sums) (λ k. wrap (at sums k +ℤ g k))
+  added-same = e ∙ tabulate-cong (length sums) _ _ (λ k k<. ap (λ (z : ℤ). wrap (at sums k +ℤ z)) (same k k<))
 
 -- rows of plane 0 in the code's numbers
 pub by-64 : (a b : Bool) → to_z w64 (of_z w64 (to_z w64 (of_z w64 (pos (from_bool a))) -ℤ to_z w64 (of_z w64 (pos (from_bool b))))) ≡ pos (from_bool a) -ℤ pos (from_bool b)

@@ -20,7 +20,7 @@ use Rattle.numbers.proofs.Lines.{tabulated-length}
 use Rattle.numbers.proofs.Sums.{sum-suc, sum-split, sum-cong, near-change, near-moved, pick_yes, pick_no, pick-in, pick_out}
 use Rattle.numbers.proofs.Wraps.{wrap-add, wrap-add-right, wrap-fits, sfits-wrap}
 use Rattle.numbers.proofs.Writes.{at, is-tabulate, tabulate-at, Upto, upto-none, upto-part, slice-length}
-use Rattle.row_loops.specs.Across.{neighbour_sum, running_sum, entered_less_left, Slid}
+use Rattle.row_loops.specs.SlidingSums.{neighbour_sum, running_sum, entered_less_left, Slid}
 
 -- ---- a sum and its changes
 module _ (sum : ℤ) (f : ℕ → ℤ) where

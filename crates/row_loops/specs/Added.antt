@@ -9,7 +9,7 @@ pub record AddedEach (By : ℕ → ℤ → Type 0) (old new : List ℤ) : Type 0
   pub each : (k : ℕ) → k < length old → (x : ℤ) × By k x × (get_or new k (pos 0) ≡ wrap (get_or old k (pos 0) +ℤ x))
 
 -- four rows of as many numbers as there are sums
-pub record ProductsAsked (a b c d sums : List ℤ) : Type 0 where
+pub record ProductsRequires (a b c d sums : List ℤ) : Type 0 where
   pub length_a : length a ≡ length sums
   pub length_b : length b ≡ length sums
   pub length_c : length c ≡ length sums

@@ -1,2 +1,2 @@
-pub mod Across
+pub mod SlidingSums
 pub mod Added

@@ -8,14 +8,14 @@ ghost use Rattle.spec_picture.specs.Picture.{plane_at};
 ghost use Rattle.spec_picture.specs.Checked.{checked_source};
 ghost use Rattle.row_loops.specs.Added.{Numbers};
 
-use crate::exchange_loops::{add_number, exchange_levels, exchange_products};
+use crate::entering_loops::{add_number, levels_enter_and_leave, products_enter_and_leave};
 use plane_rows::factors::{Factor, Factors, factors_of};
 use plane_rows::level_rows::part;
 use plane_rows::view::{View, view_of};
 use spec_picture::CheckedSource;
 
 // Every number is of 64 bits. The loop is there for the proof alone: it reads each number, whose type then says so, and keeps nothing, so the compiler leaves no code of it.
-// Not one function with `checks::levels::known`, which says why.
+// Not one function with `checks::levels::levels_fit`: each type has its own range, so one for both would need a trait with that range and a law for each type.
 fn numbers_fit(sums: &[i64])
     ensures { Numbers sums.now }
 {
@@ -40,24 +40,24 @@ fn columns_that_count(view: &View<'_>, enter: usize, leave: usize, sums: &mut [i
         }
         Factors::Level(q) => {
             let entering = part(view, q, enter, first, end);
-            exchange_levels(entering, part(view, q, leave, first, end), sums);
+            levels_enter_and_leave(entering, part(view, q, leave, first, end), sums);
         }
         Factors::Square(q) => {
             let a = part(view, q, enter, first, end);
             let c = part(view, q, leave, first, end);
-            exchange_products(a, a, c, c, sums);
+            products_enter_and_leave(a, a, c, c, sums);
         }
         Factors::Product(p, q) => {
             let a = part(view, p, enter, first, end);
             let b = part(view, q, enter, first, end);
             let c = part(view, p, leave, first, end);
             let d = part(view, q, leave, first, end);
-            exchange_products(a, b, c, d, sums);
+            products_enter_and_leave(a, b, c, d, sums);
         }
     }
 }
 
-// Row `enter` of the plane is added to the sums, and row `leave` taken away; a row past the picture's last has no cell.
+// Row `enter` of the plane is added to the sums, and row `leave` is subtracted; a row past the picture's last has no cell.
 pub fn enter_and_leave(source: &CheckedSource<'_>, enter: usize, leave: usize, sums: &mut [i64])
     requires { length sums.old ≡ source.now.frame.columns }
     ensures { sums.new ≡ tabulate source.now.frame.columns (λ j. wrap (get_or sums.old j (pos 0) +ℤ (plane_at (checked_source source.now) enter j -ℤ plane_at (checked_source source.now) leave j))) }

@@ -71,7 +71,7 @@ module _ (x : Inputs) (c : Checked x) where
             ∙ part-within 0 (n * z.columns) block part (omega arith) room (omega arith) (r * z.columns + j) (omega arith) within
             ∙ ap (at part) back ∙ ap (λ (l : List ℤ). at l (r * z.columns + j)) rows
             ∙ get_d_rows i n z.columns r j (window_sum z s P) (pos 0) r<n j<;
-        behind = was-ready (i + 16) (put_mid 0 z.columns before work) (λ h.
+        after = was-ready (i + 16) (put_mid 0 z.columns before work) (λ h.
             let full : i + n ≡ i + 16 = omega (arith, h, n-is) in
             subst (λ (m : ℕ). Ready z P lim small s m (take z.columns (put_mid 0 z.columns before work))) full
             (subst (Ready z P lim small s (i + n)) (sym a.work_is ∙ sym front) d.ready));
@@ -84,5 +84,5 @@ block_sums x y e i m m-is {work} {block} b =
     λ r j h. c.sums r j (omega (arith, h, m-is))
 
 -- the work area ready for the row that is 16 rows further on
-pub ready-behind : {x : Inputs} {i : ℕ} {work block : List ℤ} → Block x i work block → (k : ℕ) → i + 16 ≡ k → ready x k work
-ready-behind {x} {i} {work} {block} b k e = subst (λ (k : ℕ). ready x k work) e b.behind
+pub ready-after : {x : Inputs} {i : ℕ} {work block : List ℤ} → Block x i work block → (k : ℕ) → i + 16 ≡ k → ready x k work
+ready-after {x} {i} {work} {block} b k e = subst (λ (k : ℕ). ready x k work) e b.after

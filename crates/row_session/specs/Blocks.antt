@@ -16,16 +16,16 @@ ready x (suc i) work = suc i < x.source.frame.rows → take x.source.frame.colum
 abbrev pub rows_in : Inputs → ℕ → ℕ
 rows_in x b = min (suc (b + 15)) x.source.frame.rows - b
 
--- the sums of m rows from row i on, one behind the other from the front of an area on
+-- the sums of m rows from row i on, one after the other from the front of an area on
 abbrev pub RowSums : Inputs → (i m : ℕ) → List ℤ → Type 0
 RowSums x i m block = (r j : ℕ) → r < m → j < x.source.frame.columns → get_or block (r * x.source.frame.columns + j) (pos 0) ≡ direct_sum x (i + r) j
 
--- the sums of that block, and the work area ready for the block behind it
+-- the sums of that block, and the work area ready for the block after it
 pub record Block (x : Inputs) (b : ℕ) (work block : List ℤ) : Type 0 where
   pub sums : RowSums x b (rows_in x b) block
-  pub behind : ready x (b + 16) work
+  pub after : ready x (b + 16) work
 
 -- the row of the picture that the block begins at, and what the row above it left
-pub record BlockAsked (x : Inputs) (i : ℕ) (work : List ℤ) : Type 0 where
+pub record BlockRequires (x : Inputs) (i : ℕ) (work : List ℤ) : Type 0 where
   pub row : i < x.source.frame.rows
   pub before : ready x i work

@@ -24,7 +24,7 @@ pub fn rows_at(
     ensures output { out.new ≡ (row_call (inputs_of inputs.now) position.old request work.old out.old).output }
 {
     let checked = check_rows(inputs, *position, request, work, out)?;
-    advance::many(*position, &checked, request, work, out);
+    advance::next_rows(*position, &checked, request, work, out);
     *position += request;
     Ok(request)
 }

@@ -41,7 +41,7 @@ module _ (P : ℕ → ℕ → ℤ) (columns : ℕ) where
           ∙ wrap-add (sum_to m (λ k. P k j)) (P m j)
           ∙ ap wrap (sym (sum-suc m (λ k. P k j)) ∙ ap (λ (q : ℕ). sum_to q (λ k. P k j)) (sym (add-one m)))
 
-  -- and the cells of a row that are 0 are taken away
+  -- and the cells of a row that are 0 are subtracted
   pub columns-more : (m none : ℕ) (work next : List ℤ) → ((j : ℕ) → P none j ≡ pos 0) → work ≡ columns_to P columns m → next ≡ tabulate columns (λ j. wrap (at work j +ℤ (P m j -ℤ P none j))) → next ≡ columns_to P columns (m + 1)
   columns-more m none work next no_cell w o =
       columns-plus m work next w
@@ -54,7 +54,7 @@ from_0 n r f =
     let none : min (0 - r) n ≡ 0 = omega arith in
     sum_near n 0 r f ∙ ap (λ (m : ℕ). sum_to (min (suc (0 + r)) n) f -ℤ sum_to m f) none ∙ +ℤ_idr (sum_to (min (suc (0 + r)) n) f)
 
--- after the last of them stand sums that 64 bits hold
+-- after the last of them the sums are such as 64 bits hold
 done : (Q : ℕ → ℕ → ℤ) (columns m : ℕ) (W : ℕ → ℤ) (work : List ℤ) → ((j : ℕ) → W j ≡ sum_to m (λ k. Q k j)) → ((j : ℕ) → nat_abs (W j) < 2 ^ 63) → work ≡ columns_to Q columns m → work ≡ tabulate columns W
 done Q columns m W work e fits w = w ∙ tabulate-cong columns (λ j. wrap (sum_to m (λ k. Q k j))) W (λ j j<. ap wrap (sym (e j)) ∙ wrap-small (W j) (fits j))
 

@@ -30,17 +30,17 @@ wrap-twice : (x : ℤ) → wrap (wrap x) ≡ wrap x
 wrap-twice x = wrap-fits (wrap x) (sfits-wrap x)
 
 -- ---- one distance
-module _ (columns c m₁ m₂ : ℕ) (work change behind before : List ℤ) (F : ℕ → ℤ) (some : 1 ≤ c) (few : c < columns)
+module _ (columns c m₁ m₂ : ℕ) (work change after before : List ℤ) (F : ℕ → ℤ) (some : 1 ≤ c) (few : c < columns)
     (room : length work ≡ columns) (room-change : length change ≡ columns)
     (wrapped : (j : ℕ) → wrap (at work j) ≡ at work j)
     (changes : (k : ℕ) → k < columns → at change k ≡ wrap (F k))
-    (e₁ : behind ≡ tabulate m₁ (λ j. wrap (at (take (columns - c) (drop c work)) j +ℤ at (take (columns - c) change) j)))
-    (l₁ : length behind ≡ columns - c) where
+    (e₁ : after ≡ tabulate m₁ (λ j. wrap (at (take (columns - c) (drop c work)) j +ℤ at (take (columns - c) change) j)))
+    (l₁ : length after ≡ columns - c) where
   abbrev once : List ℤ
-  once = put_mid c (columns - c) work behind
+  once = put_mid c (columns - c) work after
 
   length-once : length once ≡ columns
-  length-once = part_length c columns work behind (omega arith) (omega arith) l₁ ∙ room
+  length-once = part_length c columns work after (omega arith) (omega arith) l₁ ∙ room
 
   -- from column c on, the value c columns before is added
   once-at : (j : ℕ) → j < columns → at once j ≡ wrap (at work j +ℤ pick (leb c j) (F (j - c)))
@@ -48,12 +48,12 @@ module _ (columns c m₁ m₂ : ℕ) (work change behind before : List ℤ) (F :
     where
       go : Dec (j < c) → at once j ≡ wrap (at work j +ℤ pick (leb c j) (F (j - c)))
       go (yes h) =
-          part-before c columns work behind (omega arith) (omega arith) l₁ j h
+          part-before c columns work after (omega arith) (omega arith) l₁ j h
           ∙ sym (ap (λ (x : ℤ). wrap (at work j +ℤ x)) (pick_no (leb c j) (F (j - c)) (λ t. omega (arith, leb→le c j t))) ∙ ap wrap (+ℤ_idr (at work j)) ∙ wrapped j)
       go (no h) =
           let here : c + (j - c) ≡ j = omega arith in
-          part-within c columns work behind (omega arith) (omega arith) l₁ j (omega arith) j<
-          ∙ tabulate-at behind m₁ _ e₁ (j - c) (omega arith)
+          part-within c columns work after (omega arith) (omega arith) l₁ j (omega arith) j<
+          ∙ tabulate-at after m₁ _ e₁ (j - c) (omega arith)
           ∙ ap₂ (λ (x y : ℤ). wrap (x +ℤ y))
           (slice_at c columns work (omega arith) (omega arith) (j - c) (omega arith) ∙ ap (at work) here)
           (get_or-take (columns - c) change (j - c) (pos 0) (omega arith) ∙ changes (j - c) (omega arith))
@@ -71,7 +71,7 @@ module _ (columns c m₁ m₂ : ℕ) (work change behind before : List ℤ) (F :
     abbrev twice : List ℤ
     twice = put_mid 0 (columns - c - 0) once before
 
-    -- up to the last c columns, the value c columns behind is added
+    -- up to the last c columns, the value c columns after is added
     twice-at : (j : ℕ) → j < columns → at twice j ≡ wrap (at once j +ℤ pick (ltb (j + c) columns) (F (j + c)))
     twice-at j j< = go (dec_lt (j + c) columns)
       where

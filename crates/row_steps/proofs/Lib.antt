@@ -1,4 +1,4 @@
-pub mod AcrossRows
+pub mod NeighbourSums
 pub mod Columns
 pub mod EdgeRows
 pub mod RowCells

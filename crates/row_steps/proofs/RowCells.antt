@@ -1,4 +1,4 @@
--- What row i+1 gains over row i at one half height, as a row of sums takes it.
+-- What enters less what leaves from row i to i+1 at one half height, added to a row of sums.
 -- Assumes nothing.
 use mathlib.Core.Path.{◌≡◌, sym, ◌∙◌, ap, ap₂}
 use Prim.Native.Nat.{ℕ, suc, ◌+◌, ◌-◌, ◌≤◌}
@@ -29,14 +29,14 @@ module _ (x : Source) (i d : ℕ) where
   above None h leave e j = ap (λ (m : ℕ). P m j) e ∙ plane-past x x.frame.rows j (omega arith) ∙ sym (none_above x.frame P i d j (omega (arith, h)))
   above (Some m) h leave e j = ap (λ (m : ℕ). P m j) (e ∙ h.1) ∙ sym (cell-above x.frame P (plane-past x) i d j h.0)
 
-  pub row-gained : (row : Option ℕ) → SomeIff row (d ≤ i) (i - d) → (leave : ℕ) → leave ≡ unwrap_or row x.frame.rows → (sums out : List ℤ) →
+  pub row-entered : (row : Option ℕ) → SomeIff row (d ≤ i) (i - d) → (leave : ℕ) → leave ≡ unwrap_or row x.frame.rows → (sums out : List ℤ) →
       out ≡ tabulate x.frame.columns (λ j. wrap (at sums j +ℤ (P (i + 1 + d) j -ℤ P leave j))) → out ≡ tabulate x.frame.columns (λ j. wrap (at sums j +ℤ enter_leave x.frame P i d j))
   unfolding enter_leave
-  row-gained row h leave e sums out o =
+  row-entered row h leave e sums out o =
       o ∙ tabulate-cong x.frame.columns _ _ (λ j j<. ap (λ (y : ℤ). wrap (at sums j +ℤ y)) (ap₂ (λ (y z : ℤ). y -ℤ z) (below j) (above row h leave e j)))
 
--- added to zeros it stands alone
-pub gain-alone : (columns n : ℕ) (F : ℕ → ℤ) (zeros out : List ℤ) → n ≡ columns → zeros ≡ tabulate n (λ k. pos 0) → out ≡ tabulate columns (λ j. wrap (at zeros j +ℤ F j)) → out ≡ tabulate columns (λ j. wrap (F j))
-gain-alone columns n F zeros out room e o =
+-- added to zeros it is alone
+pub difference-alone : (columns n : ℕ) (F : ℕ → ℤ) (zeros out : List ℤ) → n ≡ columns → zeros ≡ tabulate n (λ k. pos 0) → out ≡ tabulate columns (λ j. wrap (at zeros j +ℤ F j)) → out ≡ tabulate columns (λ j. wrap (F j))
+difference-alone columns n F zeros out room e o =
     o ∙ tabulate-cong columns (λ j. wrap (at zeros j +ℤ F j)) (λ j. wrap (F j))
     (λ j j<. ap wrap (ap (λ (x : ℤ). x +ℤ F j) (ap (λ (l : List ℤ). at l j) e ∙ get_d_tabulate n j (λ k. pos 0) (pos 0) (omega arith)) ∙ +ℤ_idl (F j)))

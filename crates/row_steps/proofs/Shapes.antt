@@ -19,7 +19,7 @@ use Rattle.spec_picture.specs.Picture.{Inputs, plane_at}
 use Rattle.spec_picture.specs.Direct.{direct_sum}
 use Rattle.spec_rows.specs.Rows.{column_sum, enter_leave, work_value, work_change, work_after, output_row}
 use Rattle.row_steps.specs.Edges.{edges_to}
-use Rattle.row_loops.specs.Across.{neighbour_sum}
+use Rattle.row_loops.specs.SlidingSums.{neighbour_sum}
 use Rattle.row_steps.proofs.EdgeRows.{edges_are}
 
 -- ---- the work area

@@ -1,5 +1,5 @@
-pub mod AreasAsked
-pub mod Asked
+pub mod RowStepRequires
+pub mod Requires
 pub mod Edges
-pub mod FirstRowsAsked
-pub mod SlantedAsked
+pub mod FirstRowsRequires
+pub mod SlantedRequires

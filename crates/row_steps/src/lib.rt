@@ -3,5 +3,5 @@
 
 pub mod first_rows; // first_rows.rt: the work area on row 0
 pub mod slanted; // slanted.rt: a slanted window from row to row
-pub mod areas; // areas.rt: the work area from row to row
+pub mod row_step; // row_step.rt: the work area from row to row
 pub mod step; // step.rt: from one row to the next at one half height

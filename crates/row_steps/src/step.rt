@@ -5,17 +5,17 @@ ghost use Rattle.numbers.specs.Wrap.{wrap};
 ghost use Rattle.spec_picture.specs.Picture.{plane_at};
 ghost use Rattle.spec_picture.specs.Checked.{checked_source};
 ghost use Rattle.spec_rows.specs.Rows.{enter_leave};
-ghost use Rattle.row_steps.specs.Asked.{RowAsked};
+ghost use Rattle.row_steps.specs.Requires.{RowRequires};
 
 use plane_rows::plane_values;
 use row_loops::enter_and_leave::enter_and_leave;
-use row_loops::exchange_loops::add_each;
+use row_loops::entering_loops::add_each;
 use spec_picture::CheckedSource;
 
 // From row i to i+1, at half height d: the row d rows below enters the sums, and the row d rows above, if there is one, leaves them. Past the picture's last row no cell
 // counts, so that row leaves in the place of one that is not there.
-pub fn add_gain(source: &CheckedSource<'_>, i: usize, d: usize, sums: &mut [i64])
-    requires { RowAsked source.now.frame i d sums.old }
+pub fn enter_and_leave_at(source: &CheckedSource<'_>, i: usize, d: usize, sums: &mut [i64])
+    requires { RowRequires source.now.frame i d sums.old }
     ensures { sums.new ≡ tabulate source.now.frame.columns (λ j. wrap (get_or sums.old j (pos 0) +ℤ enter_leave source.now.frame (plane_at (checked_source source.now)) i d j)) }
 {
     let leave = i.checked_sub(d).unwrap_or(source.frame.rows);
@@ -23,12 +23,12 @@ pub fn add_gain(source: &CheckedSource<'_>, i: usize, d: usize, sums: &mut [i64]
 }
 
 // The same alone: in `row` the cells that enter less those that leave.
-pub fn gain(source: &CheckedSource<'_>, i: usize, d: usize, row: &mut [i64])
-    requires { RowAsked source.now.frame i d row.old }
+pub fn step_difference(source: &CheckedSource<'_>, i: usize, d: usize, row: &mut [i64])
+    requires { RowRequires source.now.frame i d row.old }
     ensures { row.new ≡ tabulate source.now.frame.columns (λ j. wrap (enter_leave source.now.frame (plane_at (checked_source source.now)) i d j)) }
 {
     plane_values::fill(row, 0);
-    add_gain(source, i, d, row);
+    enter_and_leave_at(source, i, d, row);
 }
 
 // A row is added to the work area.

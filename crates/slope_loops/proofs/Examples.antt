@@ -20,6 +20,6 @@ unfolding edge_slopes padded sum_to pick
 hexagon-slopes = (refl, refl)
 
 -- on the cell (0, 1) the slopes above and on the left lie outside, as far as there are any: 13, 22 and 20 enter, and 3 leaves
-pub corner-slopes : (rising Q 2 2 128 257 ≡ pos 35) × (falling Q 2 2 128 257 ≡ pos 17)
+pub border-slopes : (rising Q 2 2 128 257 ≡ pos 35) × (falling Q 2 2 128 257 ≡ pos 17)
 unfolding edge_slopes padded sum_to pick
-corner-slopes = (refl, refl)
+border-slopes = (refl, refl)

@@ -1,5 +1,5 @@
 -- Rows of a plane among zeros, and the slopes of a window's edges as the code keeps them: ROW_LENGTH numbers each. In a row the picture's column 0 has
--- place MARGIN; the place of a slope shifts from row to row. The length is asked of each, since the laws are of lists, which do not know that they stand in an array.
+-- place MARGIN; the place of a slope shifts from row to row. The length is required of each, since the laws are of lists, which do not know that they are arrays.
 -- Assumes nothing.
 use Rattle.std.specs.Prelude.{◌≡◌, ℕ, ◌+◌, ◌≤◌, ◌<◌, List, length, get_or, ℤ, pos, ◌+ℤ◌, ◌-ℤ◌}
 use Rattle.std.specs.Int.Signed.{mag}
@@ -24,7 +24,7 @@ pub record Within (m : ℕ) (l : List ℤ) (p n : ℕ) : Type 0 where
   pub each : (x : ℕ) → x < n → mag (get_or l (x + p) (pos 0)) ≤ m
 
 -- n numbers from place s on have become those of F; the others are as they were
-pub record Moved (F : ℕ → ℤ) (old now : List ℤ) (s n : ℕ) : Type 0 where
+pub record Replaced (F : ℕ → ℤ) (old now : List ℤ) (s n : ℕ) : Type 0 where
   pub size : length now ≡ ROW_LENGTH
   pub done : (x : ℕ) → x < n → get_or now (x + s) (pos 0) ≡ F x
   pub low : (x : ℕ) → x < s → get_or now x (pos 0) ≡ get_or old x (pos 0)
@@ -39,16 +39,16 @@ abbrev pub slid : (a b c : List ℤ) → SlidePlaces → List ℤ → ℕ → �
 slid a b c places sums x =
     get_or sums (x + places.sums) (pos 0) +ℤ (get_or a (x + places.lower_new) (pos 0) -ℤ get_or b (x + places.lower_gone) (pos 0)) -ℤ (get_or b (x + places.upper_new) (pos 0) -ℤ get_or c (x + places.upper_gone) (pos 0))
 
--- the work row's number at column j when the slopes have come in
-abbrev pub taken : (rising falling : List ℤ) → (p q : ℕ) → List ℤ → ℕ → ℤ
-taken rising falling p q work j = wrap (get_or work j (pos 0) +ℤ (get_or rising (j + p) (pos 0) +ℤ get_or falling (j + q) (pos 0)))
+-- the work row's number at column j when the slopes are added
+abbrev pub slopes_added : (rising falling : List ℤ) → (p q : ℕ) → List ℤ → ℕ → ℤ
+slopes_added rising falling p q work j = wrap (get_or work j (pos 0) +ℤ (get_or rising (j + p) (pos 0) +ℤ get_or falling (j + q) (pos 0)))
 
--- the same when a number of a has come in too, and one of c has gone
-abbrev pub taken_tips : (a c rising falling : List ℤ) → (p q : ℕ) → List ℤ → ℕ → ℤ
-taken_tips a c rising falling p q work j = wrap (get_or work j (pos 0) +ℤ ((get_or a (j + MARGIN) (pos 0) -ℤ get_or c (j + MARGIN) (pos 0)) +ℤ (get_or rising (j + p) (pos 0) +ℤ get_or falling (j + q) (pos 0))))
+-- the same when a number of a is added too, and one of c subtracted
+abbrev pub tips_added : (a c rising falling : List ℤ) → (p q : ℕ) → List ℤ → ℕ → ℤ
+tips_added a c rising falling p q work j = wrap (get_or work j (pos 0) +ℤ ((get_or a (j + MARGIN) (pos 0) -ℤ get_or c (j + MARGIN) (pos 0)) +ℤ (get_or rising (j + p) (pos 0) +ℤ get_or falling (j + q) (pos 0))))
 
 -- n places within two rows and the sums, and sums of at most m
-pub record GatherAsked (m : ℕ) (a b : List ℤ) (n : ℕ) (places : GatherPlaces) (sums : List ℤ) : Type 0 where
+pub record GatherRequires (m : ℕ) (a b : List ℤ) (n : ℕ) (places : GatherPlaces) (sums : List ℤ) : Type 0 where
   pub length_a : length a ≡ ROW_LENGTH
   pub length_b : length b ≡ ROW_LENGTH
   pub length_sums : length sums ≡ ROW_LENGTH
@@ -58,7 +58,7 @@ pub record GatherAsked (m : ℕ) (a b : List ℤ) (n : ℕ) (places : GatherPlac
   pub within : Within m sums places.sums n
 
 -- n places within three rows and the sums, and sums of at most m
-pub record SlideAsked (m : ℕ) (a b c : List ℤ) (n : ℕ) (places : SlidePlaces) (sums : List ℤ) : Type 0 where
+pub record SlideRequires (m : ℕ) (a b c : List ℤ) (n : ℕ) (places : SlidePlaces) (sums : List ℤ) : Type 0 where
   pub length_a : length a ≡ ROW_LENGTH
   pub length_b : length b ≡ ROW_LENGTH
   pub length_c : length c ≡ ROW_LENGTH
@@ -71,7 +71,7 @@ pub record SlideAsked (m : ℕ) (a b c : List ℤ) (n : ℕ) (places : SlidePlac
   pub within : Within m sums places.sums n
 
 -- slopes of at most m for every place of the work row
-pub record FinishAsked (m : ℕ) (rising falling : List ℤ) (p q : ℕ) (work out : List ℤ) : Type 0 where
+pub record FinishRequires (m : ℕ) (rising falling : List ℤ) (p q : ℕ) (work out : List ℤ) : Type 0 where
   pub length_rising : length rising ≡ ROW_LENGTH
   pub length_falling : length falling ≡ ROW_LENGTH
   pub length_out : length out ≡ length work
@@ -81,8 +81,8 @@ pub record FinishAsked (m : ℕ) (rising falling : List ℤ) (p q : ℕ) (work o
   pub within_falling : Within m falling q (length work)
 
 -- the same, and two rows
-pub record TipsAsked (m : ℕ) (a c rising falling : List ℤ) (p q : ℕ) (work out : List ℤ) : Type 0 where
-  pub slopes : FinishAsked m rising falling p q work out
+pub record TipsRequires (m : ℕ) (a c rising falling : List ℤ) (p q : ℕ) (work out : List ℤ) : Type 0 where
+  pub slopes : FinishRequires m rising falling p q work out
   pub length_a : length a ≡ ROW_LENGTH
   pub length_c : length c ≡ ROW_LENGTH
   pub room : length work + MARGIN ≤ ROW_LENGTH

@@ -1,4 +1,4 @@
-// Loops over the slopes of the planes, of either width: they move the slopes on, and the work row takes them in.
+// Loops over the slopes of the planes, of either width: they move the slopes on, and add them to the work row.
 // For callers that have checked their inputs.
 
 ghost use Rattle.std.specs.Prelude.{◌≡◌, ℕ, ◌+◌, ◌*◌, ◌^◌, ◌<◌, ◌≤◌, ℤ, pos, ◌+ℤ◌, ◌-ℤ◌, length, map};
@@ -6,7 +6,7 @@ ghost use Rattle.std.specs.Int.Signed.{mag};
 ghost use Rattle.std.specs.Mem.{type_size};
 ghost use Rattle.std.proofs.Common.{arith};
 ghost use Rattle.numbers.specs.Grid.{tabulate};
-ghost use Rattle.slope_loops.specs.Loops.{Within, Moved, gathered, slid, taken, taken_tips, GatherAsked, SlideAsked, FinishAsked, TipsAsked};
+ghost use Rattle.slope_loops.specs.Loops.{Within, Replaced, gathered, slid, slopes_added, tips_added, GatherRequires, SlideRequires, FinishRequires, TipsRequires};
 ghost use Rattle.slope_loops.specs.declared.padding.TheConstants.{ROW_LENGTH};
 
 use crate::padding::{MARGIN, PlaneValue, ROW_LENGTH};
@@ -28,12 +28,12 @@ pub trait Slope: Copy {
         ensures { sum result ≡ pos 0 };
 
     // self + enters - leaves
-    fn gain(self, enters: Self::Value, leaves: Self::Value) -> Self
+    fn enter_and_leave(self, enters: Self::Value, leaves: Self::Value) -> Self
         requires { (mag (sum self) ≤ 2 * sum_max) × (mag (Self.Value.value enters) ≤ Self.Value.value_max) × (mag (Self.Value.value leaves) ≤ Self.Value.value_max) }
         ensures { sum result ≡ sum self +ℤ (Self.Value.value enters -ℤ Self.Value.value leaves) };
 
     // self
-    fn whole(self) -> i64
+    fn to_i64(self) -> i64
         ensures { result ≡ sum self };
 
     // self + other
@@ -69,11 +69,11 @@ impl Slope for i32 {
         0
     }
 
-    fn gain(self, enters: i16, leaves: i16) -> i32 {
+    fn enter_and_leave(self, enters: i16, leaves: i16) -> i32 {
         self + (enters as i32 - leaves as i32)
     }
 
-    fn whole(self) -> i64 {
+    fn to_i64(self) -> i64 {
         self as i64
     }
 
@@ -102,11 +102,11 @@ impl Slope for i64 {
         0
     }
 
-    fn gain(self, enters: i64, leaves: i64) -> i64 {
+    fn enter_and_leave(self, enters: i64, leaves: i64) -> i64 {
         self + (enters - leaves)
     }
 
-    fn whole(self) -> i64 {
+    fn to_i64(self) -> i64 {
         self
     }
 
@@ -119,7 +119,7 @@ impl Slope for i64 {
     }
 }
 
-// What is asked of values and sums is how large they are, by constants of the traits, which no type of theirs can say.
+// What is required of values and sums is how large they are, by constants of the traits, which no type of theirs can say.
 // The loops take arrays and the places where they begin, and no slices: an array's length is known, so its bounds are, and a slope's place shifts from row to row.
 // `slide` is not `gather` twice, nor `finish_tips` `finish` with a pass for the tips: each goes once over the slopes, and that second pass costs time (256 rows over
 // a diamond of 2 take 0.74 times as long without it).
@@ -144,7 +144,7 @@ pub struct SlidePlaces {
 }
 
 // A further cell of each edge for n sums: the one that enters is added, the one that leaves subtracted.
-#[tactic(auto, using(crate::proofs::LoopLaws::moved_none))]
+#[tactic(auto, using(crate::proofs::LoopLaws::replaced_none))]
 pub fn gather<S: Slope>(
     a: &[S::Value; ROW_LENGTH],
     b: &[S::Value; ROW_LENGTH],
@@ -152,18 +152,18 @@ pub fn gather<S: Slope>(
     places: GatherPlaces,
     sums: &mut [S; ROW_LENGTH],
 )
-    requires { GatherAsked S.sum_max (map S.Value.value a.now) (map S.Value.value b.now) n places (map S.sum sums.old) × Within S.Value.value_max (map S.Value.value a.now) places.enters n × Within S.Value.value_max (map S.Value.value b.now) places.leaves n }
-    ensures { Moved (gathered (map S.Value.value a.now) (map S.Value.value b.now) places (map S.sum sums.old)) (map S.sum sums.old) (map S.sum sums.new) places.sums n }
+    requires { GatherRequires S.sum_max (map S.Value.value a.now) (map S.Value.value b.now) n places (map S.sum sums.old) × Within S.Value.value_max (map S.Value.value a.now) places.enters n × Within S.Value.value_max (map S.Value.value b.now) places.leaves n }
+    ensures { Replaced (gathered (map S.Value.value a.now) (map S.Value.value b.now) places (map S.sum sums.old)) (map S.sum sums.old) (map S.sum sums.new) places.sums n }
 {
     for x in 0..n {
         let enters = a[x + places.enters];
         let leaves = b[x + places.leaves];
-        sums[x + places.sums] = sums[x + places.sums].gain(enters, leaves);
+        sums[x + places.sums] = sums[x + places.sums].enter_and_leave(enters, leaves);
     }
 }
 
 // n sums from a row to the next: each edge has a new cell at one end, and one is gone at the other. The lower edge's cells are added, the upper edge's subtracted.
-#[tactic(auto, using(crate::proofs::LoopLaws::moved_none))]
+#[tactic(auto, using(crate::proofs::LoopLaws::replaced_none))]
 pub fn slide<S: Slope>(
     a: &[S::Value; ROW_LENGTH],
     b: &[S::Value; ROW_LENGTH],
@@ -172,17 +172,17 @@ pub fn slide<S: Slope>(
     places: SlidePlaces,
     sums: &mut [S; ROW_LENGTH],
 )
-    requires { SlideAsked S.sum_max (map S.Value.value a.now) (map S.Value.value b.now) (map S.Value.value c.now) n places (map S.sum sums.old) × Within S.Value.value_max (map S.Value.value a.now) places.lower_new n × Within S.Value.value_max (map S.Value.value b.now) places.lower_gone n × Within S.Value.value_max (map S.Value.value b.now) places.upper_new n × Within S.Value.value_max (map S.Value.value c.now) places.upper_gone n }
-    ensures { Moved (slid (map S.Value.value a.now) (map S.Value.value b.now) (map S.Value.value c.now) places (map S.sum sums.old)) (map S.sum sums.old) (map S.sum sums.new) places.sums n }
+    requires { SlideRequires S.sum_max (map S.Value.value a.now) (map S.Value.value b.now) (map S.Value.value c.now) n places (map S.sum sums.old) × Within S.Value.value_max (map S.Value.value a.now) places.lower_new n × Within S.Value.value_max (map S.Value.value b.now) places.lower_gone n × Within S.Value.value_max (map S.Value.value b.now) places.upper_new n × Within S.Value.value_max (map S.Value.value c.now) places.upper_gone n }
+    ensures { Replaced (slid (map S.Value.value a.now) (map S.Value.value b.now) (map S.Value.value c.now) places (map S.sum sums.old)) (map S.sum sums.old) (map S.sum sums.new) places.sums n }
 {
     for x in 0..n {
         sums[x + places.sums] = sums[x + places.sums]
-            .gain(a[x + places.lower_new], b[x + places.lower_gone])
-            .gain(c[x + places.upper_gone], b[x + places.upper_new]);
+            .enter_and_leave(a[x + places.lower_new], b[x + places.lower_gone])
+            .enter_and_leave(c[x + places.upper_gone], b[x + places.upper_new]);
     }
 }
 
-// The work row takes in the slopes, and out is a copy of it.
+// The slopes are added to the work row, and out is a copy of it.
 pub fn finish<S: Slope>(
     rising: &[S; ROW_LENGTH],
     falling: &[S; ROW_LENGTH],
@@ -191,8 +191,8 @@ pub fn finish<S: Slope>(
     work: &mut [i64],
     out: &mut [i64],
 )
-    requires { FinishAsked S.sum_max (map S.sum rising.now) (map S.sum falling.now) p q work.old out.old }
-    ensures { (work.new ≡ tabulate (length work.old) (taken (map S.sum rising.now) (map S.sum falling.now) p q work.old)) × (out.new ≡ tabulate (length work.old) (taken (map S.sum rising.now) (map S.sum falling.now) p q work.old)) }
+    requires { FinishRequires S.sum_max (map S.sum rising.now) (map S.sum falling.now) p q work.old out.old }
+    ensures { (work.new ≡ tabulate (length work.old) (slopes_added (map S.sum rising.now) (map S.sum falling.now) p q work.old)) × (out.new ≡ tabulate (length work.old) (slopes_added (map S.sum rising.now) (map S.sum falling.now) p q work.old)) }
 {
     for j in 0..work.len() {
         let sum = wrapping::wrapping_add(work[j], rising[j + p].with(falling[j + q]));
@@ -201,7 +201,7 @@ pub fn finish<S: Slope>(
     }
 }
 
-// The same of edges that end in a tip: with the slopes a value of a comes in, and one of c goes.
+// The same of edges that end in a tip: with the slopes a value of a is added, and one of c subtracted.
 pub fn finish_tips<S: Slope>(
     a: &[S::Value; ROW_LENGTH],
     c: &[S::Value; ROW_LENGTH],
@@ -212,8 +212,8 @@ pub fn finish_tips<S: Slope>(
     work: &mut [i64],
     out: &mut [i64],
 )
-    requires { TipsAsked S.sum_max (map S.Value.value a.now) (map S.Value.value c.now) (map S.sum rising.now) (map S.sum falling.now) p q work.old out.old × Within S.Value.value_max (map S.Value.value a.now) MARGIN (length work.old) × Within S.Value.value_max (map S.Value.value c.now) MARGIN (length work.old) }
-    ensures { (work.new ≡ tabulate (length work.old) (taken_tips (map S.Value.value a.now) (map S.Value.value c.now) (map S.sum rising.now) (map S.sum falling.now) p q work.old)) × (out.new ≡ tabulate (length work.old) (taken_tips (map S.Value.value a.now) (map S.Value.value c.now) (map S.sum rising.now) (map S.sum falling.now) p q work.old)) }
+    requires { TipsRequires S.sum_max (map S.Value.value a.now) (map S.Value.value c.now) (map S.sum rising.now) (map S.sum falling.now) p q work.old out.old × Within S.Value.value_max (map S.Value.value a.now) MARGIN (length work.old) × Within S.Value.value_max (map S.Value.value c.now) MARGIN (length work.old) }
+    ensures { (work.new ≡ tabulate (length work.old) (tips_added (map S.Value.value a.now) (map S.Value.value c.now) (map S.sum rising.now) (map S.sum falling.now) p q work.old)) × (out.new ≡ tabulate (length work.old) (tips_added (map S.Value.value a.now) (map S.Value.value c.now) (map S.sum rising.now) (map S.sum falling.now) p q work.old)) }
 {
     for j in 0..work.len() {
         let change = rising[j + p].with_tips(falling[j + q], a[j + MARGIN], c[j + MARGIN]);

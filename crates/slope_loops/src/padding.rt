@@ -40,7 +40,7 @@ pub trait PlaneValue: Copy {
     fn zero() -> Self
         ensures { value result ≡ pos 0 };
 
-    // Row y of the padded plane stands in buf: row y - ABOVE of the plane, and zeros where there is none.
+    // Row y of the padded plane is in buf: row y - ABOVE of the plane, and zeros where there is none.
     fn load(source: &CheckedSource<'_>, y: usize, buf: &mut [Self; ROW_LENGTH])
         requires { holds (plane_number source.now.plane) × Blank (map value buf.old) source.now.frame.columns }
         ensures { Holds (map value buf.new) (padded (plane_at (checked_source source.now)) y) };

@@ -41,7 +41,7 @@ module _ (x : SlantedInputs) where
       (ap₂ (λ (a b : ℕ). edges_change z P a b i j) f.high f.wide
       ∙ sym (change-parts z P (plane-past source) (plane-beside source) S f.slanted (omega (arith, f.high, f.low, f.narrow)) (omega (arith, f.wide, f.narrow)) i j j<)))
 
-  -- one row more behind row i
+  -- one row more after row i
   pub passed-more : (i m begin : ℕ) (before work out next part : List ℤ) → Partly z P S (suc i) before m work out → begin ≡ m * z.columns → begin + z.columns ≤ length out →
       next ≡ edged x (i + m) work → part ≡ edged x (i + m) work →
       Partly z P S (suc i) before (m + 1) next (put_mid begin (begin + z.columns - begin) out part)

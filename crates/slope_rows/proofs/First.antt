@@ -1,4 +1,4 @@
--- The window sums of row 0 from column to column: nothing lies above row 0, so the rising slopes come in and the falling ones go.
+-- The window sums of row 0 from column to column: nothing lies above row 0, so the rising slopes are added and the falling ones subtracted.
 -- Assumes nothing.
 use mathlib.Core.Path.{◌≡◌, sym, ◌∙◌, ap, ap₂}
 use Prim.Native.Nat.{ℕ, zero, suc, ◌+◌, ◌-◌, ◌≤◌, ◌<◌, min}
@@ -86,14 +86,14 @@ module _ (z : Frame) (P : ℕ → ℕ → ℤ) (past : (m n : ℕ) → z.rows �
     abbrev w : ℕ
     w = width s
 
-    -- row t of the window: the cell behind its right end comes in, and the one at its left end goes
-    abbrev comes : ℕ → ℤ
-    comes t = Q (ABOVE + t) (MARGIN + 1 + j + w - t)
+    -- row t of the window: the cell after its right end is added, and the one at its left end subtracted
+    abbrev enters : ℕ → ℤ
+    enters t = Q (ABOVE + t) (MARGIN + 1 + j + w - t)
 
-    abbrev goes : ℕ → ℤ
-    goes t = Q (ABOVE + t) (MARGIN + j + t - w)
+    abbrev leaves : ℕ → ℤ
+    leaves t = Q (ABOVE + t) (MARGIN + j + t - w)
 
-    row_step : (t : ℕ) → t ≤ h → reached z P s t (suc j) ≡ reached z P s t j +ℤ (comes t -ℤ goes t)
+    row_step : (t : ℕ) → t ≤ h → reached z P s t (suc j) ≡ reached z P s t j +ℤ (enters t -ℤ leaves t)
     row_step t l =
         let k : reach s t ≡ w - t = reach-slanted s no-rectangle t in
         let wide : h ≤ w = height-width s no-rectangle in
@@ -105,42 +105,42 @@ module _ (z : Frame) (P : ℕ → ℕ → ℤ) (past : (m n : ℕ) → z.rows �
         (on-right t (reach s t) j ∙ ap (λ (q : ℕ). Q (ABOVE + t) (MARGIN + 1 + j + q)) k ∙ ap (Q (ABOVE + t)) right)
         (on-left t (reach s t) j (omega (arith, k)) j< ∙ ap (λ (q : ℕ). Q (ABOVE + t) (MARGIN + j - q)) k ∙ ap (Q (ABOVE + t)) left))
 
-    rows_step : window_sum z s P 0 (suc j) ≡ window_sum z s P 0 j +ℤ sum_to (suc h) (λ t. comes t -ℤ goes t)
+    rows_step : window_sum z s P 0 (suc j) ≡ window_sum z s P 0 j +ℤ sum_to (suc h) (λ t. enters t -ℤ leaves t)
     rows_step =
         let m = min (suc (0 + h)) z.rows in
         let from_0 : 0 + h ≡ h = omega arith in
         window-0 z P s (suc j)
-        ∙ sum-cong m (λ t. reached z P s t (suc j)) (λ t. reached z P s t j +ℤ (comes t -ℤ goes t)) (λ t t<. row_step t (omega arith))
-        ∙ sum-add m (λ t. reached z P s t j) (λ t. comes t -ℤ goes t)
+        ∙ sum-cong m (λ t. reached z P s t (suc j)) (λ t. reached z P s t j +ℤ (enters t -ℤ leaves t)) (λ t t<. row_step t (omega arith))
+        ∙ sum-add m (λ t. reached z P s t j) (λ t. enters t -ℤ leaves t)
         ∙ ap₂ ◌+ℤ◌ (sym (window-0 z P s j))
-        (sum-upto (suc (0 + h)) z.rows (λ t. comes t -ℤ goes t) (λ t l. ap₂ ◌-ℤ◌ (padded-past t (MARGIN + 1 + j + w - t) l) (padded-past t (MARGIN + j + t - w) l))
-        ∙ ap (λ (n : ℕ). sum_to (suc n) (λ t. comes t -ℤ goes t)) from_0)
+        (sum-upto (suc (0 + h)) z.rows (λ t. enters t -ℤ leaves t) (λ t l. ap₂ ◌-ℤ◌ (padded-past t (MARGIN + 1 + j + w - t) l) (padded-past t (MARGIN + j + t - w) l))
+        ∙ ap (λ (n : ℕ). sum_to (suc n) (λ t. enters t -ℤ leaves t)) from_0)
 
     -- of row 0 the slopes have lower cells, and above them those of row 0 alone
-    rising-is : 1 ≤ h → rising Q w h ABOVE (MARGIN + j) ≡ sum_to h (λ t. comes (suc t)) -ℤ goes 0
+    rising-is : 1 ≤ h → rising Q w h ABOVE (MARGIN + j) ≡ sum_to h (λ t. enters (suc t)) -ℤ leaves 0
     unfolding edge_slopes
     rising-is some =
         sum-sub h (λ t. Q (ABOVE + 1 + t) (MARGIN + j + w - t)) (λ t. Q (ABOVE - t) (MARGIN + j + t - w))
         ∙ ap₂ ◌-ℤ◌
-        (sum-cong h (λ t. Q (ABOVE + 1 + t) (MARGIN + j + w - t)) (λ t. comes (suc t)) (λ t t<. ap₂ Q (omega arith) (omega arith)))
+        (sum-cong h (λ t. Q (ABOVE + 1 + t) (MARGIN + j + w - t)) (λ t. enters (suc t)) (λ t t<. ap₂ Q (omega arith) (omega arith)))
         (only-first h (λ t. Q (ABOVE - t) (MARGIN + j + t - w)) some (λ t l. padded-above P (ABOVE - t) (MARGIN + j + t - w) (omega arith)) ∙ ap₂ Q (omega arith) (omega arith))
 
-    falling-is : 1 ≤ h → falling Q w h ABOVE (MARGIN + 1 + j) ≡ sum_to h (λ t. goes (suc t)) -ℤ comes 0
+    falling-is : 1 ≤ h → falling Q w h ABOVE (MARGIN + 1 + j) ≡ sum_to h (λ t. leaves (suc t)) -ℤ enters 0
     unfolding edge_slopes
     falling-is some =
         sum-sub h (λ t. Q (ABOVE + 1 + t) (MARGIN + 1 + j + t - w)) (λ t. Q (ABOVE - t) (MARGIN + 1 + j + w - t))
         ∙ ap₂ ◌-ℤ◌
-        (sum-cong h (λ t. Q (ABOVE + 1 + t) (MARGIN + 1 + j + t - w)) (λ t. goes (suc t)) (λ t t<. ap₂ Q (omega arith) (omega arith)))
+        (sum-cong h (λ t. Q (ABOVE + 1 + t) (MARGIN + 1 + j + t - w)) (λ t. leaves (suc t)) (λ t t<. ap₂ Q (omega arith) (omega arith)))
         (only-first h (λ t. Q (ABOVE - t) (MARGIN + 1 + j + w - t)) some (λ t l. padded-above P (ABOVE - t) (MARGIN + 1 + j + w - t) (omega arith)) ∙ ap₂ Q (omega arith) (omega arith))
 
-    parted : (c cs g gs : ℤ) → (c +ℤ cs) -ℤ (g +ℤ gs) ≡ (cs -ℤ g) -ℤ (gs -ℤ c)
-    parted c cs g gs = ring (search (sums, any c, any cs, any g, any gs) depth 12) (omega arith)
+    regrouped : (c cs g gs : ℤ) → (c +ℤ cs) -ℤ (g +ℤ gs) ≡ (cs -ℤ g) -ℤ (gs -ℤ c)
+    regrouped c cs g gs = ring (search (sums, any c, any cs, any g, any gs) depth 12) (omega arith)
 
     pub first_step : 1 ≤ h → window_sum z s P 0 (suc j) ≡ window_sum z s P 0 j +ℤ (rising Q w h ABOVE (MARGIN + j) -ℤ falling Q w h ABOVE (MARGIN + 1 + j))
     first_step some =
         rows_step
         ∙ ap (λ (v : ℤ). window_sum z s P 0 j +ℤ v)
-        (sum-sub (suc h) comes goes
-        ∙ ap₂ ◌-ℤ◌ (sum_first h comes) (sum_first h goes)
-        ∙ parted (comes 0) (sum_to h (λ t. comes (suc t))) (goes 0) (sum_to h (λ t. goes (suc t)))
+        (sum-sub (suc h) enters leaves
+        ∙ ap₂ ◌-ℤ◌ (sum_first h enters) (sum_first h leaves)
+        ∙ regrouped (enters 0) (sum_to h (λ t. enters (suc t))) (leaves 0) (sum_to h (λ t. leaves (suc t)))
         ∙ sym (ap₂ ◌-ℤ◌ (rising-is some) (falling-is some)))

@@ -21,10 +21,10 @@ use Rattle.spec_rows.specs.Rows.{enter_leave}
 use Rattle.slope_loops.specs.declared.loops.GatherPlaces.{GatherPlaces}
 use Rattle.slope_loops.specs.declared.loops.SlidePlaces.{SlidePlaces}
 use Rattle.slope_loops.specs.Slopes.{padded, edge_slopes, on_right, on_left, rising, falling, edges_change}
-use Rattle.slope_loops.proofs.LoopLaws.{moved-all}
+use Rattle.slope_loops.proofs.LoopLaws.{replaced-all}
 use Rattle.slope_loops.proofs.Moves.{padded-left, padded-right, slope_none, slope-more, slope_bound, rising_step, falling-step, rising-right, falling-left}
 use Rattle.slope_loops.proofs.Parts.{tips}
-use Rattle.slope_loops.specs.Loops.{Blank, Holds, Within, Moved, gathered, slid, taken, taken_tips}
+use Rattle.slope_loops.specs.Loops.{Blank, Holds, Within, Replaced, gathered, slid, slopes_added, tips_added}
 use Rattle.slope_rows.specs.Edges.{Slopes}
 use Rattle.slope_rows.specs.Places.{RisingCells, FallingCells, RisingPlaces, FallingPlaces}
 use Rattle.std.proofs.lemmas.List.{get_or_past}
@@ -96,33 +96,33 @@ module _ (P : ℕ → ℕ → ℤ) (columns : ℕ) (beside : (m n : ℕ) → col
   module _ (w i t : ℕ) {a b rises falls rises_next falls_next : List ℤ} (up down : GatherPlaces) (narrow : w ≤ 127) (few : t < w)
       (ru : RisingCells MARGIN (w - t) up) (rd : FallingCells (MARGIN - w) (w - t) down)
       (lower : Holds a (Q (ABOVE + i + 1 + t))) (upper : Holds b (Q (ABOVE + i - t))) (l : Slopes Q columns w t (ABOVE + i) 0 rises falls)
-      (u : Moved (gathered a b up rises) rises rises_next up.sums (columns + w))
-      (v : Moved (gathered a b down falls) falls falls_next down.sums (columns + w)) where
+      (u : Replaced (gathered a b up rises) rises rises_next up.sums (columns + w))
+      (v : Replaced (gathered a b down falls) falls falls_next down.sums (columns + w)) where
     pub slopes-cell : Slopes Q columns w (t + 1) (ABOVE + i) 0 rises_next falls_next
     slopes-cell = record {
       length_rises = u.size;
       length_falls = v.size;
-      rising_at = λ s h. moved-all u (λ p. rising Q w (t + 1) (ABOVE + i) (p + SLOPE_SHIFT - 0))
+      rising_at = λ s h. replaced-all u (λ p. rising Q w (t + 1) (ABOVE + i) (p + SLOPE_SHIFT - 0))
           (λ x x<. gathered-more Q (on_right w (x + up.sums + SLOPE_SHIFT - 0)) (on_left w (x + up.sums + SLOPE_SHIFT - 0)) t (ABOVE + i) x rises up lower upper (l.rising_at (x + up.sums) (omega (arith, ru.sums))) (omega (arith, ru.sums, ru.enters)) (omega (arith, ru.sums, ru.leaves)))
           s (λ before. absurd (omega (arith, ru.sums)))
-          (λ behind. l.rising_at s (omega arith)
+          (λ after. l.rising_at s (omega arith)
           ∙ rising-right P columns beside w t (ABOVE + i) (s + SLOPE_SHIFT - 0) (omega arith) (omega (arith, ru.sums))
           ∙ sym (rising-right P columns beside w (t + 1) (ABOVE + i) (s + SLOPE_SHIFT - 0) (omega arith) (omega (arith, ru.sums))));
-      falling_at = λ s h. moved-all v (λ p. falling Q w (t + 1) (ABOVE + i) (p + 0 - SLOPE_SHIFT))
+      falling_at = λ s h. replaced-all v (λ p. falling Q w (t + 1) (ABOVE + i) (p + 0 - SLOPE_SHIFT))
           (λ x x<. gathered-more Q (on_left w (x + down.sums + 0 - SLOPE_SHIFT)) (on_right w (x + down.sums + 0 - SLOPE_SHIFT)) t (ABOVE + i) x falls down lower upper (l.falling_at (x + down.sums) (omega (arith, rd.sums))) (omega (arith, rd.sums, rd.enters)) (omega (arith, rd.sums, rd.leaves)))
           s
           (λ before. l.falling_at s (omega arith)
           ∙ falling-left P w t (ABOVE + i) (s + 0 - SLOPE_SHIFT) (omega arith) (omega (arith, rd.sums))
           ∙ sym (falling-left P w (t + 1) (ABOVE + i) (s + 0 - SLOPE_SHIFT) (omega arith) (omega (arith, rd.sums))))
-          (λ behind. absurd (omega (arith, rd.sums)));
+          (λ after. absurd (omega (arith, rd.sums)));
     }
 
   -- the slopes of the next row
   module _ (w h i m : ℕ) {a b c rises falls rises_next falls_next : List ℤ} (up down : SlidePlaces) (narrow : w ≤ 127) (low : h ≤ w) (turn : m ≤ 254)
       (ru : RisingPlaces MARGIN (m + 1) w (w - h) up) (rd : FallingPlaces (MARGIN - w) (m + 1) w (w - h) down)
       (lower : Holds a (Q (ABOVE + i + 1 + h))) (middle : Holds b (Q (ABOVE + i + 1))) (upper : Holds c (Q (ABOVE + i + 1 - h))) (l : Slopes Q columns w h (ABOVE + i) m rises falls)
-      (u : Moved (slid a b c up rises) rises rises_next up.sums (columns + w))
-      (v : Moved (slid a b c down falls) falls falls_next down.sums (columns + w)) where
+      (u : Replaced (slid a b c up rises) rises rises_next up.sums (columns + w))
+      (v : Replaced (slid a b c down falls) falls falls_next down.sums (columns + w)) where
     rises_next-is : (x : ℕ) → slid a b c up rises x ≡ rising Q w h (ABOVE + i + 1) (x + up.sums + SLOPE_SHIFT - (m + 1))
     rises_next-is x =
         let e : x + up.sums + SLOPE_SHIFT - m ≡ x + up.sums + SLOPE_SHIFT - (m + 1) + 1 = omega (arith, ru.sums) in
@@ -142,17 +142,17 @@ module _ (P : ℕ → ℕ → ℤ) (columns : ℕ) (beside : (m n : ℕ) → col
     slopes-next = record {
       length_rises = u.size;
       length_falls = v.size;
-      rising_at = λ s p. moved-all u (λ q. rising Q w h (ABOVE + i + 1) (q + SLOPE_SHIFT - (m + 1))) (λ x x<. rises_next-is x)
+      rising_at = λ s p. replaced-all u (λ q. rising Q w h (ABOVE + i + 1) (q + SLOPE_SHIFT - (m + 1))) (λ x x<. rises_next-is x)
           s (λ before. absurd (omega (arith, ru.sums)))
-          (λ behind. l.rising_at s (omega arith)
+          (λ after. l.rising_at s (omega arith)
           ∙ rising-right P columns beside w h (ABOVE + i) (s + SLOPE_SHIFT - m) low (omega (arith, ru.sums))
           ∙ sym (rising-right P columns beside w h (ABOVE + i + 1) (s + SLOPE_SHIFT - (m + 1)) low (omega (arith, ru.sums))));
-      falling_at = λ s p. moved-all v (λ q. falling Q w h (ABOVE + i + 1) (q + (m + 1) - SLOPE_SHIFT)) falls_next-is
+      falling_at = λ s p. replaced-all v (λ q. falling Q w h (ABOVE + i + 1) (q + (m + 1) - SLOPE_SHIFT)) falls_next-is
           s
           (λ before. l.falling_at s (omega arith)
           ∙ falling-left P w h (ABOVE + i) (s + m - SLOPE_SHIFT) low (omega (arith, rd.sums))
           ∙ sym (falling-left P w h (ABOVE + i + 1) (s + (m + 1) - SLOPE_SHIFT) low (omega (arith, rd.sums))))
-          (λ behind. absurd (omega (arith, rd.sums)));
+          (λ after. absurd (omega (arith, rd.sums)));
     }
 
 -- ---- what a row of a call adds to the work area
@@ -171,25 +171,25 @@ module _ (z : Frame) (P : ℕ → ℕ → ℤ) (w h i m : ℕ) {rises falls : Li
       (l.rising_at (j + (RISING_START + m)) (omega arith) ∙ ap (rising (padded P) w h (ABOVE + i)) rises-there)
       (l.falling_at (j + (FALLING_START - m)) (omega arith) ∙ ap (falling (padded P) w h (ABOVE + i)) falls-there)
 
-  -- when the flat parts and then the slopes have come in
+  -- when the flat parts and then the slopes are added
   pub work-edged : (n : ℕ) (work with-flat out : List ℤ) → n ≡ z.columns → with-flat ≡ tabulate z.columns (λ j. wrap (at work j +ℤ flat j)) →
-      out ≡ tabulate n (taken rises falls (RISING_START + m) (FALLING_START - m) with-flat) → out ≡ tabulate z.columns (λ j. wrap (at work j +ℤ edges_change z P h w i j))
+      out ≡ tabulate n (slopes_added rises falls (RISING_START + m) (FALLING_START - m) with-flat) → out ≡ tabulate z.columns (λ j. wrap (at work j +ℤ edges_change z P h w i j))
   unfolding edges_change
   work-edged n work with-flat out en ef eo =
-      eo ∙ ap (λ (k : ℕ). tabulate k (taken rises falls (RISING_START + m) (FALLING_START - m) with-flat)) en
-      ∙ tabulate-cong z.columns (taken rises falls (RISING_START + m) (FALLING_START - m) with-flat) (λ j. wrap (at work j +ℤ (flat j +ℤ slanted j)))
+      eo ∙ ap (λ (k : ℕ). tabulate k (slopes_added rises falls (RISING_START + m) (FALLING_START - m) with-flat)) en
+      ∙ tabulate-cong z.columns (slopes_added rises falls (RISING_START + m) (FALLING_START - m) with-flat) (λ j. wrap (at work j +ℤ (flat j +ℤ slanted j)))
       (λ j j<. ap₂ (λ (x y : ℤ). wrap (x +ℤ y)) (ap (λ (q : List ℤ). at q j) ef ∙ get_d_tabulate z.columns j (λ j. wrap (at work j +ℤ flat j)) (pos 0) j<) (slanted-at j j<)
       ∙ wrap-add (at work j +ℤ flat j) (slanted j)
       ∙ ap wrap (+ℤ_assoc (at work j) (flat j) (slanted j)))
 
-  -- when the tips and the slopes have come in together
+  -- when the tips and the slopes are added together
   pub work-tipped : (past : (m n : ℕ) → z.rows ≤ m → P m n ≡ pos 0) (beside : (m n : ℕ) → z.columns ≤ n → P m n ≡ pos 0) (n : ℕ) (a c work out : List ℤ) → h ≤ 127 → w - h ≡ 0 →
       Holds a (padded P (ABOVE + i + 1 + h)) → Holds c (padded P (ABOVE + i - h)) → n ≡ z.columns →
-      out ≡ tabulate n (taken_tips a c rises falls (RISING_START + m) (FALLING_START - m) work) → out ≡ tabulate z.columns (λ j. wrap (at work j +ℤ edges_change z P h w i j))
+      out ≡ tabulate n (tips_added a c rises falls (RISING_START + m) (FALLING_START - m) work) → out ≡ tabulate z.columns (λ j. wrap (at work j +ℤ edges_change z P h w i j))
   unfolding edges_change
   work-tipped past beside n a c work out low tip ha hc en eo =
-      eo ∙ ap (λ (k : ℕ). tabulate k (taken_tips a c rises falls (RISING_START + m) (FALLING_START - m) work)) en
-      ∙ tabulate-cong z.columns (taken_tips a c rises falls (RISING_START + m) (FALLING_START - m) work) (λ j. wrap (at work j +ℤ (flat j +ℤ slanted j)))
+      eo ∙ ap (λ (k : ℕ). tabulate k (tips_added a c rises falls (RISING_START + m) (FALLING_START - m) work)) en
+      ∙ tabulate-cong z.columns (tips_added a c rises falls (RISING_START + m) (FALLING_START - m) work) (λ j. wrap (at work j +ℤ (flat j +ℤ slanted j)))
       (λ j j<.
       let place : j + MARGIN ≡ MARGIN + j = omega arith in
       let ends : flat j ≡ padded P (ABOVE + i + 1 + h) (MARGIN + j) -ℤ padded P (ABOVE + i - h) (MARGIN + j) =

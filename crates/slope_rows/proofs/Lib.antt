@@ -1,6 +1,6 @@
-pub mod Across
+pub mod BySlopes
 pub mod Advances
-pub mod Asks
+pub mod Required
 pub mod First
 pub mod Kept
 pub mod Windows

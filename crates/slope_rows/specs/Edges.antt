@@ -1,6 +1,6 @@
--- The slopes of a slanted window's edges as the code keeps them from row to row, and what its functions ask. That the window is no rectangle, and of which height
--- and width, stands in the type of their inputs.
--- Room is asked in each contract, for the reason at `row_steps/specs/AreasAsked`.
+-- The slopes of a slanted window's edges as the code keeps them from row to row, and what its functions require. That the window is no rectangle, and its height
+-- and width, are in the type of their inputs.
+-- Lengths are required in each contract, for the reason at `row_steps/specs/RowStepRequires`.
 -- Assumes nothing.
 use Rattle.std.specs.Prelude.{◌≡◌, ℕ, zero, suc, ◌+◌, ◌-◌, ◌*◌, ◌≤◌, ◌<◌, Bool, not, List, T, length, get_or, take, ℤ, pos, ◌+ℤ◌, ◌-ℤ◌}
 use Rattle.numbers.specs.Grid.{tabulate}
@@ -36,7 +36,7 @@ abbrev pub plane_in : SlantedInputs → ℕ → ℕ → ℤ
 plane_in x = plane_at (checked_source x.inputs.source)
 
 -- a row of the picture, and no slopes yet
-pub record StartAsked (x : SlantedInputs) (i : ℕ) (a b rises falls : List ℤ) : Type 0 where
+pub record StartRequires (x : SlantedInputs) (i : ℕ) (a b rises falls : List ℤ) : Type 0 where
   pub inside : i < x.inputs.source.frame.rows
   pub blank_a : Blank a x.inputs.source.frame.columns
   pub blank_b : Blank b x.inputs.source.frame.columns
@@ -48,20 +48,20 @@ pub record Started (x : SlantedInputs) (i : ℕ) (a b rises falls : List ℤ) : 
   pub blank_b : Blank b x.inputs.source.frame.columns
   pub slopes : Slopes (padded (plane_in x)) x.inputs.source.frame.columns x.width x.height (ABOVE + i) 0 rises falls
 
--- the sum at column j of a row that begins with `corner`: from a column to the next its rising slopes come in and the falling ones of the next go
-unfoldable pub across_slopes : (corner : ℤ) → (rises falls : List ℤ) → (j : ℕ) → ℤ
-across_slopes corner rises falls zero = corner
-across_slopes corner rises falls (suc j) = wrap (across_slopes corner rises falls j +ℤ (get_or rises (j + RISING_START) (pos 0) -ℤ get_or falls (j + FALLING_START + 1) (pos 0)))
+-- the sum at column j of a row that begins with `first_sum`: from a column to the next its rising slopes are added and the falling ones of the next subtracted
+unfoldable pub sum_by_slopes : (first_sum : ℤ) → (rises falls : List ℤ) → (j : ℕ) → ℤ
+sum_by_slopes first_sum rises falls zero = first_sum
+sum_by_slopes first_sum rises falls (suc j) = wrap (sum_by_slopes first_sum rises falls j +ℤ (get_or rises (j + RISING_START) (pos 0) -ℤ get_or falls (j + FALLING_START + 1) (pos 0)))
 
--- slopes, and room for a row twice
-pub record AcrossAsked (rises falls work out : List ℤ) : Type 0 where
+-- slopes, a work area, and an output area for a row
+pub record FirstRowRequires (rises falls work out : List ℤ) : Type 0 where
   pub length_rises : length rises ≡ ROW_LENGTH
   pub length_falls : length falls ≡ ROW_LENGTH
   pub few : length work ≤ 1024
   pub room : length out ≡ length work
 
--- a row of a call, with its slopes, a work area, and room for a row
-pub record RowAsked (x : SlantedInputs) (here : CallRow) (a b c rises falls work out : List ℤ) : Type 0 where
+-- a row of a call, with its slopes, a work area, and an output area for a row
+pub record RowRequires (x : SlantedInputs) (here : CallRow) (a b c rises falls work out : List ℤ) : Type 0 where
   pub inside : here.row < x.inputs.source.frame.rows
   pub turn : here.moved ≤ 254
   pub rows : Rows x.inputs.source.frame.columns a b c
@@ -81,7 +81,7 @@ pub record RowDone (x : SlantedInputs) (here : CallRow) (before a b c rises fall
   pub output_is : out ≡ edged x here.row before
 
 -- ---- the rows that enter and leave in the middle are kept too
-pub record TakeAsked (x : SlantedInputs) (here : CallRow) (a c rises falls work out : List ℤ) : Type 0 where
+pub record AddEdgesRequires (x : SlantedInputs) (here : CallRow) (a c rises falls work out : List ℤ) : Type 0 where
   pub inside : here.row < x.inputs.source.frame.rows
   pub turn : here.moved ≤ 254
   pub entering : Holds a (padded (plane_in x) (ABOVE + here.row + 1 + x.height))
@@ -91,32 +91,32 @@ pub record TakeAsked (x : SlantedInputs) (here : CallRow) (a c rises falls work 
   pub room : length out ≡ x.inputs.source.frame.columns
 
 -- of a plane whose values the rows hold
-pub record LeavingAsked (holds : ℕ → Type 0) (x : SlantedInputs) (here : CallRow) (a b c rises falls work out : List ℤ) : Type 0 where
+pub record LeavingRequires (holds : ℕ → Type 0) (x : SlantedInputs) (here : CallRow) (a b c rises falls work out : List ℤ) : Type 0 where
   pub plane : holds (plane_number x.inputs.source.plane)
-  pub row : RowAsked x here a b c rises falls work out
+  pub row : RowRequires x here a b c rises falls work out
   pub leaving : Holds c (padded (plane_in x) (ABOVE + here.row - x.height))
 
 pub record LeavingDone (x : SlantedInputs) (here : CallRow) (before a b c rises falls work out : List ℤ) : Type 0 where
   pub row : RowDone x here before a b c rises falls work out
   pub leaving : Holds c (padded (plane_in x) (ABOVE + here.row + 1 - x.height))
 
--- rows of the picture behind row i, a work area, and room for those rows
-pub record ManyAsked (x : SlantedInputs) (i n : ℕ) (work out : List ℤ) : Type 0 where
+-- rows of the picture after row i, a work area, and an output area for those rows
+pub record RowsRequires (x : SlantedInputs) (i n : ℕ) (work out : List ℤ) : Type 0 where
   pub rows : i + n < x.inputs.source.frame.rows
   pub room_work : length work ≡ x.inputs.source.frame.columns
   pub room : length out ≡ n * x.inputs.source.frame.columns
 
 -- ---- many rows, of a plane whose values the rows hold
 -- the same with the slopes of the row before them, and the row that leaves in the middle
-pub record AfterAsked (holds : ℕ → Type 0) (x : SlantedInputs) (rows_after : RowsAfter) (a b c rises falls work out : List ℤ) : Type 0 where
+pub record AfterRequires (holds : ℕ → Type 0) (x : SlantedInputs) (rows_after : RowsAfter) (a b c rises falls work out : List ℤ) : Type 0 where
   pub plane : holds (plane_number x.inputs.source.plane)
-  pub many : ManyAsked x rows_after.row rows_after.count work out
+  pub many : RowsRequires x rows_after.row rows_after.count work out
   pub rows : Rows x.inputs.source.frame.columns a b c
   pub slopes : Slopes (padded (plane_in x)) x.inputs.source.frame.columns x.width x.height (ABOVE + rows_after.row) 0 rises falls
   pub leaving : Holds c (padded (plane_in x) (ABOVE + rows_after.row - x.height))
 
--- A window that has slopes: its height is 1 at least, which is not so of every slanted window; the first rows of the picture, one at least, a work area, and room for those rows
-pub record FreshAsked (x : SlantedInputs) (n : ℕ) (work out : List ℤ) : Type 0 where
+-- A window that has slopes: its height is 1 at least, which is not so of every slanted window; the first rows of the picture, one at least, a work area, and an output area for those rows
+pub record FreshRequires (x : SlantedInputs) (n : ℕ) (work out : List ℤ) : Type 0 where
   pub plane : plane_number x.inputs.source.plane ≤ 2
   pub high : 1 ≤ x.height
   pub some : 1 ≤ n
@@ -124,8 +124,8 @@ pub record FreshAsked (x : SlantedInputs) (n : ℕ) (work out : List ℤ) : Type
   pub room_work : length work ≡ x.inputs.source.frame.columns
   pub room : length out ≡ n * x.inputs.source.frame.columns
 
--- the slopes of row 0, a work area and room for a row, where row 0 is to come by its slopes
-pub record TopAsked (x : SlantedInputs) (fresh : Bool) (rises falls work out : List ℤ) : Type 0 where
+-- the slopes of row 0, a work area and an output area for a row, where row 0 is to be computed by its slopes
+pub record TopRequires (x : SlantedInputs) (fresh : Bool) (rises falls work out : List ℤ) : Type 0 where
   pub high : T fresh → 1 ≤ x.height
   pub slopes : T fresh → Slopes (padded (plane_in x)) x.inputs.source.frame.columns x.width x.height ABOVE 0 rises falls
   pub length_rises : length rises ≡ ROW_LENGTH
@@ -141,16 +141,16 @@ pub record TopDone (x : Inputs) (fresh : Bool) (before work out : List ℤ) (beg
   pub none : T (not fresh) → begin ≡ 0
   pub kept : T (not fresh) → work ≡ before
 
--- n rows behind row i, and row 0 before them where they are fresh
-pub record FromAsked (holds : ℕ → Type 0) (x : SlantedInputs) (fresh : Bool) (i n : ℕ) (work out : List ℤ) : Type 0 where
+-- n rows after row i, and row 0 before them where they are fresh
+pub record FromRequires (holds : ℕ → Type 0) (x : SlantedInputs) (fresh : Bool) (i n : ℕ) (work out : List ℤ) : Type 0 where
   pub plane : holds (plane_number x.inputs.source.plane)
   pub high : T fresh → 1 ≤ x.height
   pub at_0 : T fresh → i ≡ 0
   pub rows : i + n < x.inputs.source.frame.rows
   pub room_work : length work ≡ x.inputs.source.frame.columns
   pub room_fresh : T fresh → length out ≡ suc n * x.inputs.source.frame.columns
-  pub room_behind : T (not fresh) → length out ≡ n * x.inputs.source.frame.columns
+  pub room_after : T (not fresh) → length out ≡ n * x.inputs.source.frame.columns
 
 pub record FromDone (x : Inputs) (fresh : Bool) (i n : ℕ) (before work out : List ℤ) : Type 0 where
   pub from_0 : T fresh → Advanced (strip x.source.frame (plane_at x.source) (shape_of x.window) 0 (suc n) before) work out
-  pub behind : T (not fresh) → Advanced (strip x.source.frame (plane_at x.source) (shape_of x.window) (suc i) n before) work out
+  pub after : T (not fresh) → Advanced (strip x.source.frame (plane_at x.source) (shape_of x.window) (suc i) n before) work out

@@ -1,4 +1,4 @@
-pub mod Asked
+pub mod Requires
 pub mod Edges
 pub mod Fits
 pub mod Places

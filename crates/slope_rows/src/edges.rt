@@ -5,16 +5,22 @@ ghost use Rattle.std.specs.Prelude.{suc};
 ghost use Rattle.spec_picture.specs.Window.{shape_of};
 ghost use Rattle.spec_picture.specs.Checked.{given};
 ghost use Rattle.spec_rows.specs.Rows.{strip, Advanced};
-ghost use Rattle.slope_rows.specs.Edges.{plane_in, ManyAsked, FreshAsked};
+ghost use Rattle.slope_rows.specs.Edges.{plane_in, RowsRequires, FreshRequires};
 
 use crate::kept_slopes::SlantedInputs;
 use rows::rows_from;
 
 mod rows; // rows.rt: rows of any width
 
-// n rows behind row i, of which the work area has the sums.
-pub fn many(slanted: &SlantedInputs<'_>, i: usize, n: usize, work: &mut [i64], out: &mut [i64])
-    requires { ManyAsked slanted.now i n work.old out.old }
+// n rows after row i, of which the work area has the sums.
+pub fn rows_by_slopes(
+    slanted: &SlantedInputs<'_>,
+    i: usize,
+    n: usize,
+    work: &mut [i64],
+    out: &mut [i64],
+)
+    requires { RowsRequires slanted.now i n work.old out.old }
     ensures { Advanced (strip slanted.now.inputs.source.frame (plane_in slanted.now) (shape_of (given slanted.now.inputs.window)) (suc i) n work.old) work.new out.new }
 {
     if slanted.inputs.source.plane.is_narrow() {
@@ -26,7 +32,7 @@ pub fn many(slanted: &SlantedInputs<'_>, i: usize, n: usize, work: &mut [i64], o
 
 // The first n rows, of a plane of ones or levels.
 pub fn fresh(slanted: &SlantedInputs<'_>, n: usize, work: &mut [i64], out: &mut [i64])
-    requires { FreshAsked slanted.now n work.old out.old }
+    requires { FreshRequires slanted.now n work.old out.old }
     ensures { Advanced (strip slanted.now.inputs.source.frame (plane_in slanted.now) (shape_of (given slanted.now.inputs.window)) 0 n work.old) work.new out.new }
 {
     rows_from::<i32>(true, slanted, 0, n - 1, work, out);

@@ -1,7 +1,7 @@
 // From one row to the next of a diamond's or hexagon's window sums, by the slopes of its edges, which move on with it.
 #![tactic(auto)]
 
-pub mod flat; // flat.rt: the flat parts of the edges
+pub mod flat_edge; // flat_edge.rt: the flat parts of the edges
 pub mod kept_slopes; // kept_slopes.rt: inputs whose window is no rectangle
 pub mod places; // places.rt: where the slopes are kept
 pub mod slope_starts; // slope_starts.rt: the slopes where a call begins
@@ -9,7 +9,7 @@ pub mod edges; // edges.rt: many rows
 
 ghost use Rattle.std.specs.Prelude.{◌≡◌, ◌≤◌, map};
 ghost use Rattle.spec_picture.specs.Plane.{plane_number};
-ghost use Rattle.slope_rows.specs.Edges.{edged, TakeAsked, LeavingAsked, LeavingDone};
+ghost use Rattle.slope_rows.specs.Edges.{edged, AddEdgesRequires, LeavingRequires, LeavingDone};
 
 use crate::kept_slopes::SlantedInputs;
 use crate::places::{CallRow, FALLING_START, RISING_START, falling_places, rising_places};
@@ -21,7 +21,7 @@ use slope_loops::padding::{ABOVE, PlaneValue, ROW_LENGTH};
 
 // From a row to the next: the flat parts and the slopes are added to the work area. Where a flat part is one column, a tip, a has the row that enters there, and c the
 // one that leaves.
-fn take_in<S: Slope>(
+fn add_edges<S: Slope>(
     slanted: &SlantedInputs<'_>,
     here: CallRow,
     a: &[S::Value; ROW_LENGTH],
@@ -31,7 +31,7 @@ fn take_in<S: Slope>(
     work: &mut [i64],
     out: &mut [i64],
 )
-    requires { S.Value.holds (plane_number slanted.now.inputs.source.plane) × TakeAsked slanted.now here (map S.Value.value a.now) (map S.Value.value c.now) (map S.sum rises.now) (map S.sum falls.now) work.old out.old }
+    requires { S.Value.holds (plane_number slanted.now.inputs.source.plane) × AddEdgesRequires slanted.now here (map S.Value.value a.now) (map S.Value.value c.now) (map S.sum rises.now) (map S.sum falls.now) work.old out.old }
     ensures { (work.new ≡ edged slanted.now here.row work.old) × (out.new ≡ edged slanted.now here.row work.old) }
 {
     let h = slanted.height;
@@ -42,13 +42,13 @@ fn take_in<S: Slope>(
         loops::finish_tips(a, c, rises, falls, p, q, work, out);
         return;
     }
-    flat::flat(&slanted.inputs.source, here.row, h, k, work, out);
+    flat_edge::add_flat_edge(&slanted.inputs.source, here.row, h, k, work, out);
     loops::finish(rises, falls, p, q, work, out);
 }
 
 // From a row to the next: the work area moves on, and so do the slopes; c has the row that leaves in the middle.
 #[tactic(auto, unfolding(spec_picture::specs::Frame::frame_legal))]
-pub fn row<S: Slope>(
+pub fn next_row<S: Slope>(
     slanted: &SlantedInputs<'_>,
     here: CallRow,
     a: &mut [S::Value; ROW_LENGTH],
@@ -59,7 +59,7 @@ pub fn row<S: Slope>(
     work: &mut [i64],
     out: &mut [i64],
 )
-    requires { LeavingAsked S.Value.holds slanted.now here (map S.Value.value a.old) (map S.Value.value b.old) (map S.Value.value c.old) (map S.sum rises.old) (map S.sum falls.old) work.old out.old }
+    requires { LeavingRequires S.Value.holds slanted.now here (map S.Value.value a.old) (map S.Value.value b.old) (map S.Value.value c.old) (map S.sum rises.old) (map S.sum falls.old) work.old out.old }
     ensures { LeavingDone slanted.now here work.old (map S.Value.value a.new) (map S.Value.value b.new) (map S.Value.value c.new) (map S.sum rises.new) (map S.sum falls.new) work.new out.new }
 {
     let h = slanted.height;
@@ -69,7 +69,7 @@ pub fn row<S: Slope>(
     let below = ABOVE + here.row + 1;
     let moved = here.moved + 1;
     S::Value::load(&slanted.inputs.source, below + h, a);
-    take_in(slanted, here, a, c, rises, falls, work, out);
+    add_edges(slanted, here, a, c, rises, falls, work, out);
     S::Value::load(&slanted.inputs.source, below, b);
     S::Value::load(&slanted.inputs.source, below - h, c);
     loops::slide(a, b, c, n, rising_places(moved, w, k), rises);

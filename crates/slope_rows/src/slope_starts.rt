@@ -3,7 +3,7 @@
 ghost use Rattle.std.specs.Prelude.{◌≡◌, ◌≤◌, length, map};
 ghost use Rattle.numbers.specs.Grid.{tabulate};
 ghost use Rattle.spec_picture.specs.Plane.{plane_number};
-ghost use Rattle.slope_rows.specs.Edges.{StartAsked, Started, across_slopes, AcrossAsked};
+ghost use Rattle.slope_rows.specs.Edges.{StartRequires, Started, sum_by_slopes, FirstRowRequires};
 
 use crate::kept_slopes::SlantedInputs;
 use crate::places::{FALLING_START, RISING_START, falling_cells, rising_cells};
@@ -24,7 +24,7 @@ pub fn start<S: Slope>(
     rises: &mut [S; ROW_LENGTH],
     falls: &mut [S; ROW_LENGTH],
 )
-    requires { S.Value.holds (plane_number slanted.now.inputs.source.plane) × StartAsked slanted.now i (map S.Value.value a.old) (map S.Value.value b.old) (map S.sum rises.old) (map S.sum falls.old) }
+    requires { S.Value.holds (plane_number slanted.now.inputs.source.plane) × StartRequires slanted.now i (map S.Value.value a.old) (map S.Value.value b.old) (map S.sum rises.old) (map S.sum falls.old) }
     ensures { Started slanted.now i (map S.Value.value a.new) (map S.Value.value b.new) (map S.sum rises.new) (map S.sum falls.new) }
 {
     let h = slanted.height;
@@ -39,24 +39,24 @@ pub fn start<S: Slope>(
     }
 }
 
-// The sums of row 0 from its first one, `corner`: nothing lies above the row, so from column to column the rising slopes come in and the falling ones go. out is a copy.
-pub fn first<S: Slope>(
-    corner: i64,
+// The sums of row 0 from its first one, `first_sum`: nothing lies above the row, so from column to column the rising slopes are added and the falling ones subtracted. out is a copy.
+pub fn first_row<S: Slope>(
+    first_sum: i64,
     rises: &[S; ROW_LENGTH],
     falls: &[S; ROW_LENGTH],
     work: &mut [i64],
     out: &mut [i64],
 )
-    requires { AcrossAsked (map S.sum rises.now) (map S.sum falls.now) work.old out.old }
-    ensures { (work.new ≡ tabulate (length work.old) (across_slopes corner (map S.sum rises.now) (map S.sum falls.now))) × (out.new ≡ tabulate (length work.old) (across_slopes corner (map S.sum rises.now) (map S.sum falls.now))) }
+    requires { FirstRowRequires (map S.sum rises.now) (map S.sum falls.now) work.old out.old }
+    ensures { (work.new ≡ tabulate (length work.old) (sum_by_slopes first_sum (map S.sum rises.now) (map S.sum falls.now))) × (out.new ≡ tabulate (length work.old) (sum_by_slopes first_sum (map S.sum rises.now) (map S.sum falls.now))) }
 {
-    let mut sum = corner;
+    let mut sum = first_sum;
     for j in 0..work.len() {
         work[j] = sum;
         out[j] = sum;
         let change = wrapping::wrapping_sub(
-            rises[j + RISING_START].whole(),
-            falls[j + FALLING_START + 1].whole(),
+            rises[j + RISING_START].to_i64(),
+            falls[j + FALLING_START + 1].to_i64(),
         );
         sum = wrapping::wrapping_add(sum, change);
     }

@@ -33,7 +33,7 @@ lent-length lo n l h =
     let span : lo + n - lo ≡ n = omega arith in
     slice-length lo (lo + n) l (omega arith) h ∙ span
 
--- m rows put in place behind the n rows before them
+-- m rows put in place after the first n rows
 module _ (f : ℕ → ℕ → ℤ) (c n m lo hi : ℕ) (l part : List ℤ) (u : Lines f c l n) (start : lo ≡ n * c) (end : hi ≡ lo + m * c) (room : hi ≤ length l) (size : length part ≡ m * c)
     (rows : (r j : ℕ) → r < m → j < c → at part (r * c + j) ≡ f (n + r) j) where
   span : length part ≡ hi - lo

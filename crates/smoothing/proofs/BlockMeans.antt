@@ -22,7 +22,7 @@ use Rattle.spec_statistics.proofs.Possible.{sums-fair, count-bound}
 use Rattle.spec_smoothing.specs.Smoothing.{alone}
 use Rattle.row_session.specs.Blocks.{RowSums}
 use Rattle.smoothing.proofs.BlockLines.{cell-of}
-use Rattle.smoothing.specs.Means.{LevelMean, MeansAsked, means_of}
+use Rattle.smoothing.specs.Means.{LevelMean, MeansRequires, means_of}
 use Rattle.spec_smoothing.proofs.Means.{counted, mean-level}
 
 -- m rows from row i on end within the picture
@@ -53,8 +53,8 @@ module _ (x : Inputs) (c : Checked x) (a : x ≡ alone x.source.frame x.source.f
       subst (λ (y : Inputs). j < z.columns → LevelMean (direct_sum (on_plane y 0) (i + r) j) (direct_sum (on_plane y 1) (i + r) j)) (sym a)
       (alone-mean z x.source.f x.window (subst Checked a c) (i + r) j (omega (arith, h, within)))
 
-  pub block-asked : m * z.columns ≤ length n → m * z.columns ≤ length s → MeansAsked n s out
-  block-asked room_n room_s = record {
+  pub block-required : m * z.columns ≤ length n → m * z.columns ≤ length s → MeansRequires n s out
+  block-required room_n room_s = record {
     room_n = omega arith;
     room_s = omega arith;
     each = λ k h.

@@ -22,7 +22,7 @@ pub record LevelMean (n s : ℤ) : Type 0 where
   pub level : mag (nearest s (nat_abs n)) < 2 ^ 15
 
 -- N and S of cells at the fronts of two areas, and room for their means
-pub record MeansAsked (n s out : List ℤ) : Type 0 where
+pub record MeansRequires (n s out : List ℤ) : Type 0 where
   pub room_n : length out ≤ length n
   pub room_s : length out ≤ length s
   pub each : (j : ℕ) → j < length out → LevelMean (get_or n j (pos 0)) (get_or s j (pos 0))

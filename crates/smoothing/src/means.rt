@@ -4,7 +4,7 @@
 
 ghost use Rattle.std.specs.Prelude.{◌≡◌, nat_abs};
 ghost use Rattle.numbers.specs.Round.{nearest};
-ghost use Rattle.smoothing.specs.Means.{Counted, LevelSum, MeansAsked, means_of};
+ghost use Rattle.smoothing.specs.Means.{Counted, LevelSum, MeansRequires, means_of};
 
 use arithmetic::quotients::Reciprocal;
 
@@ -31,7 +31,7 @@ fn mean(s: i64, by: Reciprocal) -> i16
 // The means of such cells, whose N and S stand at the fronts of two areas. Along a row N seldom changes, so its reciprocal is kept from cell to
 // cell.
 pub fn row_means(n: &[i64], s: &[i64], out: &mut [i16])
-    requires { MeansAsked n.now s.now out.old }
+    requires { MeansRequires n.now s.now out.old }
     ensures { out.new ≡ means_of n.now s.now out.old }
 {
     let mut by = Reciprocal::new(1);

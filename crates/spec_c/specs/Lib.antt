@@ -1,3 +1,3 @@
 pub mod Leaves
-pub mod Reply
+pub mod CResult
 pub mod Version

@@ -19,7 +19,7 @@ use Rattle.spec_picture.specs.Direct.{window_sum, direct_sum}
 use Rattle.spec_statistics.specs.Moments.{mean}
 use Rattle.spec_smoothing.specs.Smoothing.{smoothed}
 use Rattle.spec_panel.specs.Text.{runs, divides, is_digit, ended, runs_from, all_digits, value_from, natural, number, decimal_in, decimal, printed}
-use Rattle.spec_panel.specs.Panel.{Drawing, count_of, panel_frame, levels_of, windowed, filled, sized, parsed, line_of, lines_of, shown, panel}
+use Rattle.spec_panel.specs.Panel.{Drawing, count_of, panel_frame, levels_of, windowed, filled, sized, parsed, line_of, lines_of, output_of, panel}
 
 -- 2 3 1 0 1 1 2 6 -1 -2 -6
 abbrev asked : List ℕ
@@ -27,12 +27,12 @@ asked = 50 ∷ 32 ∷ 51 ∷ 32 ∷ 49 ∷ 32 ∷ 48 ∷ 32 ∷ 49 ∷ 32 ∷ 49
 
 -- 2 3 4 / -1 -3 -4
 example : panel asked ≡ 50 ∷ 32 ∷ 51 ∷ 32 ∷ 52 ∷ 10 ∷ 45 ∷ 49 ∷ 32 ∷ 45 ∷ 51 ∷ 32 ∷ 45 ∷ 52 ∷ 10 ∷ []
-unfolding panel shown parsed sized filled windowed levels_of panel_frame count_of line_of lines_of printed decimal decimal_in number natural value_from all_digits runs_from ended is_digit divides smoothed mean direct_sum window_sum plane_at plane_value counts in_range frame_legal rectangle_legal diamond_legal hexagon_legal window_legal shape_of height reach floor_div nearest tabulate rows_from sum_to pick
+unfolding panel output_of parsed sized filled windowed levels_of panel_frame count_of line_of lines_of printed decimal decimal_in number natural value_from all_digits runs_from ended is_digit divides smoothed mean direct_sum window_sum plane_at plane_value counts in_range frame_legal rectangle_legal diamond_legal hexagon_legal window_legal shape_of height reach floor_div nearest tabulate rows_from sum_to pick
 example = refl
 
 -- the same numbers with other dividers: 1 1 / 1 0 0 / 7, led, divided and trailed by line feeds, tabs and spaces
 divided : panel (10 ∷ 49 ∷ 9 ∷ 49 ∷ 32 ∷ 32 ∷ 49 ∷ 32 ∷ 48 ∷ 32 ∷ 48 ∷ 10 ∷ 55 ∷ 32 ∷ 10 ∷ []) ≡ 55 ∷ 10 ∷ []
-unfolding panel shown parsed sized filled windowed levels_of panel_frame count_of line_of lines_of printed decimal decimal_in number natural value_from all_digits runs_from ended is_digit divides smoothed mean direct_sum window_sum plane_at plane_value counts in_range frame_legal rectangle_legal diamond_legal hexagon_legal window_legal shape_of height reach floor_div nearest tabulate rows_from sum_to pick
+unfolding panel output_of parsed sized filled windowed levels_of panel_frame count_of line_of lines_of printed decimal decimal_in number natural value_from all_digits runs_from ended is_digit divides smoothed mean direct_sum window_sum plane_at plane_value counts in_range frame_legal rectangle_legal diamond_legal hexagon_legal window_legal shape_of height reach floor_div nearest tabulate rows_from sum_to pick
 divided = refl
 
 -- "an optional minus sign and 1 to 9 digits": -0 is 0, leading zeros count among the nine digits; a lone minus, two of them, a plus sign, a carriage return and ten digits are malformed
@@ -73,6 +73,6 @@ longer text h = go (ltb 65536 (length text)) (lt→ltb 65536 (length text) h)
     go false t = absurd t
 
 -- refused 10
-word : shown (refused 10) ≡ 114 ∷ 101 ∷ 102 ∷ 117 ∷ 115 ∷ 101 ∷ 100 ∷ 32 ∷ 49 ∷ 48 ∷ 10 ∷ []
-unfolding shown decimal decimal_in
+word : output_of (refused 10) ≡ 114 ∷ 101 ∷ 102 ∷ 117 ∷ 115 ∷ 101 ∷ 100 ∷ 32 ∷ 49 ∷ 48 ∷ 10 ∷ []
+unfolding output_of decimal decimal_in
 word = refl

@@ -1,4 +1,4 @@
--- A text that is taken asks for a legal picture and a legal window, so smoothing does not refuse it.
+-- A text that is accepted asks for a legal picture and a legal window, so smoothing does not refuse it.
 -- Assumes nothing.
 use mathlib.Core.Path.{◌≡◌, refl, ap, subst}
 use Prim.Native.Nat.{ℕ, zero, suc, ◌^◌, ◌<◌}

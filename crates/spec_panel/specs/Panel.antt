@@ -80,11 +80,11 @@ abbrev pub refused_line : ℕ → List ℕ
 refused_line n = 114 ∷ 101 ∷ 102 ∷ 117 ∷ 115 ∷ 101 ∷ 100 ∷ space ∷ (decimal n ++ (line_feed ∷ []))
 
 -- what panel prints of a drawing: its smoothed picture
-unfoldable pub shown : Outcome Drawing → List ℕ
-shown (refused n) = refused_line n
-shown (answered d) =
+unfoldable pub output_of : Outcome Drawing → List ℕ
+output_of (refused n) = refused_line n
+output_of (answered d) =
     let out = smoothed d.frame d.levels d.window in
     lines_of (λ i j. get_or out (i * d.frame.columns + j) (pos 0)) 0 d.frame.rows d.frame.columns
 
 unfoldable pub panel : List ℕ → List ℕ
-panel text = shown (parsed text)
+panel text = output_of (parsed text)

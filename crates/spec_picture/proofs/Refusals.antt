@@ -38,7 +38,7 @@ pub no-checks : refusal [] ≡ none
 unfolding refusal
 no-checks = refl
 
--- where the call is taken, the first check is passed, and so are the rest
+-- where the call is accepted, the first check is passed, and so are the rest
 pub none-head : (n : ℕ) (c : Bool) (rest : List Check) → refusal ((n when c) ∷ rest) ≡ none → c ≡ false
 unfolding refusal
 none-head n true rest e = cc
@@ -89,33 +89,33 @@ pub answers : {B : Type 0} (a b : B) (checks : List Check) → none ≡ refusal 
 answers a b checks h e = rw e (sym (outcome-none (refusal checks) b (sym h)))
 
 -- and what such an answer tells
-pub refused-tells : {B : Type 0} (r : Option ℕ) (b : B) (n : ℕ) → refused n ≡ outcome r b → some n ≡ r
+pub refused-has : {B : Type 0} (r : Option ℕ) (b : B) (n : ℕ) → refused n ≡ outcome r b → some n ≡ r
 unfolding outcome
-refused-tells none b n e = cc
-refused-tells (some m) b n e = cc
+refused-has none b n e = cc
+refused-has (some m) b n e = cc
 
-pub answered-tells : {B : Type 0} (r : Option ℕ) (a b : B) → answered a ≡ outcome r b → (none ≡ r) × (a ≡ b)
+pub answered-has : {B : Type 0} (r : Option ℕ) (a b : B) → answered a ≡ outcome r b → (none ≡ r) × (a ≡ b)
 unfolding outcome
-answered-tells none a b e = (refl, cc)
-answered-tells (some m) a b e = cc
+answered-has none a b e = (refl, cc)
+answered-has (some m) a b e = cc
 
 -- a plane by its number
-pub plane-taken : (n k : ℕ) → n ≡ k → ltb 5 k ≡ false → answered k ≡ outcome (refusal (check5 n ∷ [])) n
-plane-taken n k e h = rw e (sym (outcome-none (refusal (check5 k ∷ [])) k (pass 5 (ltb 5 k) [] h ∙ no-checks)))
+pub plane-accepted : (n k : ℕ) → n ≡ k → ltb 5 k ≡ false → answered k ≡ outcome (refusal (check5 n ∷ [])) n
+plane-accepted n k e h = rw e (sym (outcome-none (refusal (check5 k ∷ [])) k (pass 5 (ltb 5 k) [] h ∙ no-checks)))
 
 pub plane-refused : (n : ℕ) → 5 < n → refused 5 ≡ outcome (refusal (check5 n ∷ [])) n
 plane-refused n h = sym (outcome-some (refusal (check5 n ∷ [])) n 5 (stop 5 (ltb 5 n) [] (lt→ltb 5 n h)))
 
 -- a shape by its number
-pub shape-taken : (n k : ℕ) → n ≡ k → not (is_shape k) ≡ false → answered k ≡ outcome (refusal ((3 when not (is_shape n)) ∷ [])) n
-shape-taken n k e h = rw e (sym (outcome-none (refusal ((3 when not (is_shape k)) ∷ [])) k (pass 3 (not (is_shape k)) [] h ∙ no-checks)))
+pub shape-accepted : (n k : ℕ) → n ≡ k → not (is_shape k) ≡ false → answered k ≡ outcome (refusal ((3 when not (is_shape n)) ∷ [])) n
+shape-accepted n k e h = rw e (sym (outcome-none (refusal ((3 when not (is_shape k)) ∷ [])) k (pass 3 (not (is_shape k)) [] h ∙ no-checks)))
 
 pub shape-refused : (n : ℕ) → ((1 ≤ n) × (n ≤ 3) → ⊥) → refused 3 ≡ outcome (refusal ((3 when not (is_shape n)) ∷ [])) n
 shape-refused n h =
     let none : is_shape n ≡ false = off (is_shape n) (λ t. h (leb→le 1 n (and_left (leb 1 n) (leb n 3) t), leb→le n 3 (and_right (leb 1 n) (leb n 3) t))) in
     sym (outcome-some (refusal ((3 when not (is_shape n)) ∷ [])) n 3 (stop 3 (not (is_shape n)) [] (rw none tt)))
 
--- a call that is taken passes both groups
+-- a call that is accepted passes both groups
 pub none_before : (before after : List Check) → refusal (before ++ after) ≡ none → refusal before ≡ none
 none_before [] after e = no-checks
 none_before ((n when c) ∷ rest) after e =
@@ -223,9 +223,9 @@ cell-inside z i j e =
     let t = of-not (ltb i z.rows && ltb j z.columns) e in
     record { row = ltb→lt i z.rows (and_left (ltb i z.rows) (ltb j z.columns) t); column = ltb→lt j z.columns (and_right (ltb i z.rows) (ltb j z.columns) t) }
 
-pub direct-taken : (x : Inputs) (i j : ℕ) → refusal (direct_checks x i j) ≡ none → accepted x × Within x.source.frame i j
-direct-taken x i j taken =
+pub direct-accepted : (x : Inputs) (i j : ℕ) → refusal (direct_checks x i j) ≡ none → accepted x × Within x.source.frame i j
+direct-accepted x i j accepted-call =
     let z = x.source.frame in (
-      none_before (input_checks x) (check6 z i j ∷ []) taken,
-      cell-inside z i j (none-head 6 (not (ltb i z.rows && ltb j z.columns)) [] (none_after (input_checks x) (check6 z i j ∷ []) taken)),
+      none_before (input_checks x) (check6 z i j ∷ []) accepted-call,
+      cell-inside z i j (none-head 6 (not (ltb i z.rows && ltb j z.columns)) [] (none_after (input_checks x) (check6 z i j ∷ []) accepted-call)),
     )

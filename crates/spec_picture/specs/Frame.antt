@@ -19,8 +19,8 @@ frame_legal z = leb 1 z.rows && leb z.rows 256 && leb 1 z.columns && leb z.colum
 abbrev pub cells : Frame → ℕ
 cells z = z.rows * z.columns
 
--- A cell of the picture. It stands in contracts, since it is said of a cell and of a frame: a type that said it would hold both, or be made anew wherever the frame
--- stands in another type.
+-- A cell of the picture. It is in contracts, since it is said of a cell and of a frame: a type that said it would hold both, or be made anew wherever the frame
+-- is in another type.
 pub record Within (z : Frame) (i j : ℕ) : Type 0 where
   pub row : i < z.rows
   pub column : j < z.columns

@@ -13,7 +13,7 @@ infix 25 ◌when◌
 pub data Check : Type 0 where
   ◌when◌ : ℕ → Bool → Check
 
--- the number of the first check whose condition holds; `none` if the call is taken
+-- the number of the first check whose condition holds; `none` if the call is accepted
 unfoldable pub refusal : List Check → Option ℕ
 refusal [] = none
 refusal ((n when c) ∷ rest) = elim c [ true ↦ some n | false ↦ refusal rest ]

@@ -1,4 +1,4 @@
-// Inputs that checks have passed: what the checks found stands in their types.
+// Inputs that checks have passed: what the checks found is in their types.
 ghost use Rattle.std.specs.Prelude.{◌≡◌, T, length};
 ghost use Rattle.spec_picture.specs.Frame.{frame_legal, cells};
 ghost use Rattle.spec_picture.specs.Window.{window, window_legal};

@@ -1,4 +1,4 @@
-// The picture, its window, and two pictures under a shift: their types. What they mean stands in specs/.
+// The picture, its window, and two pictures under a shift: their types. What they mean is in specs/.
 #![tactic(auto)]
 
 ghost use Rattle.std.specs.Prelude.{◌≡◌};

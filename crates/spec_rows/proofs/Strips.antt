@@ -22,9 +22,9 @@ unfolding output_row
 output-slanted z (rectangle a b) work out e o = absurd (true≢false e)
 output-slanted z (slanted s) work out e o = o
 
--- a part put behind what is done is done too
-pub put-behind : (start n : ℕ) (out part : List ℤ) → start ≤ length out → length part ≡ n → take (start + n) (put_mid start n out part) ≡ take start out ++ part
-put-behind start n out part h e =
+-- a part put after what is done is done too
+pub put-after : (start n : ℕ) (out part : List ℤ) → start ≤ length out → length part ≡ n → take (start + n) (put_mid start n out part) ≡ take start out ++ part
+put-after start n out part h e =
     ap (take (start + n)) (sym (append_assoc (take start out) part (post_of start n out)))
     ∙ take_at (take start out ++ part) (post_of start n out) (start + n) (length-append (take start out) part ∙ ap₂ (λ (a b : ℕ). a + b) (length-take-le start out h) e)
 
@@ -54,7 +54,7 @@ module _ (z : Frame) (P : ℕ → ℕ → ℤ) (s : Shape) (position : ℕ) (sta
         output_is =
             ap (λ (m : ℕ). take m (put_mid at (at + z.columns - at) out part)) upto
             ∙ ap (λ (m : ℕ). take (at + z.columns) (put_mid at m out part)) span
-            ∙ put-behind at z.columns out part (omega arith) l
+            ∙ put-after at z.columns out part (omega arith) l
             ∙ ap₂ ◌++◌ (ap (λ (m : ℕ). take m out) ea ∙ u.output_is) (ep ∙ ap (output_row z s) (sym w))
             ∙ sym (ap (λ (r : Strip). r.output) more);
       }
@@ -66,7 +66,7 @@ module _ (z : Frame) (P : ℕ → ℕ → ℤ) (s : Shape) (position : ℕ) (sta
         output_is = sym (take_all (n * z.columns) out (omega arith)) ∙ ap (λ (m : ℕ). take (m * z.columns) out) (sym e) ∙ u.output_is ∙ ap (λ (m : ℕ). (strip z P s position m start).output) e;
       }
 
--- a row put in front, and the others behind it
+-- a row put in front, and the others after it
 pub two-parts : (columns end : ℕ) (out row rest : List ℤ) → columns ≤ end → length out ≡ end → length row ≡ columns → length rest ≡ end - columns →
     put_mid columns (end - columns) (put_mid 0 (columns - 0) out row) rest ≡ row ++ rest
 two-parts columns end out row rest h e er es =
@@ -78,10 +78,10 @@ two-parts columns end out row rest h e er es =
     let whole_length : length (put_mid columns (end - columns) front rest) ≡ end = part_length columns end front rest h (omega arith) es ∙ front_length in
     sym (take_all end (put_mid columns (end - columns) front rest) (omega arith))
     ∙ ap (λ (m : ℕ). take m (put_mid columns (end - columns) front rest)) (sym span)
-    ∙ put-behind columns (end - columns) front rest (omega arith) es
-    ∙ ap (λ (l : List ℤ). l ++ rest) (ap (λ (m : ℕ). take columns (put_mid 0 m out row)) none ∙ ap (λ (m : ℕ). take m (put_mid 0 columns out row)) from ∙ put-behind 0 columns out row (omega arith) er)
+    ∙ put-after columns (end - columns) front rest (omega arith) es
+    ∙ ap (λ (l : List ℤ). l ++ rest) (ap (λ (m : ℕ). take columns (put_mid 0 m out row)) none ∙ ap (λ (m : ℕ). take m (put_mid 0 columns out row)) from ∙ put-after 0 columns out row (omega arith) er)
 
--- the first row of a call, and those behind it
+-- the first row of a call, and those after it
 pub first-and-rest : (z : Frame) (P : ℕ → ℕ → ℤ) (s : Shape) (position m n : ℕ) (start next row work rest : List ℤ) → n ≡ suc m →
     next ≡ work_after z P s position start → row ≡ output_row z s next → Advanced (strip z P s (suc position) m next) work rest → Advanced (strip z P s position n start) work (row ++ rest)
 unfolding strip

@@ -130,21 +130,21 @@ unfolding smoothed
 smoothed-at z f w i j hi hj = get_or-grid z.rows z.columns i j (λ i j. mean (six_sums (alone z f w) i j)) (pos 0) hi hj
 
 -- what the checks of smoothing leave
-taken-window : (z : Frame) (f : List ℤ) (w : Window) (output : List ℤ) → refusal (smooth_checks z f w output) ≡ none → T (window_legal w)
-taken-window z f w output e = of-not (window_legal w) (none-head 3 (not (window_legal w)) _ (none_rest 2 _ _ (none_rest 1 _ _ e)))
+accepted-window : (z : Frame) (f : List ℤ) (w : Window) (output : List ℤ) → refusal (smooth_checks z f w output) ≡ none → T (window_legal w)
+accepted-window z f w output e = of-not (window_legal w) (none-head 3 (not (window_legal w)) _ (none_rest 2 _ _ (none_rest 1 _ _ e)))
 
--- the public mean answers at every cell of a picture that is taken, and each number that smoothing writes is its answer: never Empty, since a cell counts itself
+-- the public mean answers at every cell of a picture that is accepted, and each number that smoothing writes is its answer: never Empty, since a cell counts itself
 pub mean-smoothed : (z : Frame) (f : List ℤ) (w : Window) (output : List ℤ) → Levels f → refusal (smooth_checks z f w output) ≡ none → (i j : ℕ) → i < z.rows → j < z.columns →
     mean_call (six_sums (alone z f w) i j) ≡ answered (some (get_or (smoothed z f w) (i * z.columns + j) (pos 0)))
 unfolding mean_call
 mean-smoothed z f w output lv e i j hi hj =
     let s = six_sums (alone z f w) i j in
-    let fair = sums-possible (alone z f w) lv lv (taken-window z f w output e) i j in
+    let fair = sums-possible (alone z f w) lv lv (accepted-window z f w output e) i j in
     let some_cell = (as-count z f w lv s.n (counted z f w i j hi hj)).1 in
     sym (answers-some s (mean s) (possible-has s fair) (λ n. omega (arith, some_cell, n)))
     ∙ ap (λ (m : ℤ). answered (some m)) (sym (smoothed-at z f w i j hi hj))
 
--- a call that is taken writes the means; one that is refused keeps the output
+-- a call that is accepted writes the means; one that is refused keeps the output
 pub smooth-writes : (z : Frame) (f : List ℤ) (w : Window) (output : List ℤ) → refusal (smooth_checks z f w output) ≡ none →
     smooth_call z f w output ≡ record { answer = answered tt; area = smoothed z f w }
 unfolding smooth_call

@@ -51,23 +51,23 @@ pub record NoCell (z : Sums) : Type 0 where
   pub is : count z ≡ 0
 
 -- the sums are possible, with N not 0, and m is theirs
-pub record Taken (z : Sums) (m : CentralMoments) : Type 0 where
+pub record HasMoments (z : Sums) (m : CentralMoments) : Type 0 where
   pub possible : Possible z
   pub some_cell : count z ≡ 0 → ⊥
   pub is : m ≡ central_moments z
 
-pub empty-tells : (z : Sums) → answered none ≡ central_call z → NoCell z
-empty-tells z e = go (case-of z) e
+pub empty-has : (z : Sums) → answered none ≡ central_call z → NoCell z
+empty-has z e = go (case-of z) e
   where
     go : Case z → answered none ≡ central_call z → NoCell z
     go (refusing i c) e = never (cc)
     go (empty p k c) e = record { possible = p; is = k }
     go (given p k c) e = never (cc)
 
-pub given-tells : (z : Sums) (m : CentralMoments) → answered (some m) ≡ central_call z → Taken z m
-given-tells z m e = go (case-of z) e
+pub given-has : (z : Sums) (m : CentralMoments) → answered (some m) ≡ central_call z → HasMoments z m
+given-has z m e = go (case-of z) e
   where
-    go : Case z → answered (some m) ≡ central_call z → Taken z m
+    go : Case z → answered (some m) ≡ central_call z → HasMoments z m
     go (refusing i c) e = never (cc)
     go (empty p k c) e = never (cc)
     go (given p k c) e = record { possible = p; some_cell = k; is = cc }
@@ -75,7 +75,7 @@ given-tells z m e = go (case-of z) e
 -- ---- what a statistic that goes on from it answers
 -- Empty, and a value
 pub empty-too : {A : Type 0} (z : Sums) (r : A) → answered none ≡ central_call z → answered none ≡ unless9 z (unless_empty z r)
-empty-too z r e = let f = empty-tells z e in answers-empty z r f.possible f.is
+empty-too z r e = let f = empty-has z e in answers-empty z r f.possible f.is
 
 pub given-too : {A : Type 0} (z : Sums) (m : CentralMoments) (v r : A) → answered (some m) ≡ central_call z → v ≡ r → answered (some v) ≡ unless9 z (unless_empty z r)
-given-too {A} z m v r e q = let t = given-tells z m e in ap (λ (x : A). answered (some x)) q ∙ answers-some z r t.possible t.some_cell
+given-too {A} z m v r e q = let t = given-has z m e in ap (λ (x : A). answered (some x)) q ∙ answers-some z r t.possible t.some_cell

@@ -58,7 +58,7 @@ fair-plus x y g h =
       product = omega (arith, e, size-add x.p y.p, g.product, h.product);
     }
 
--- a cell that is taken, or left
+-- a cell that counts, or does not
 abbrev one : Bool → ℤ → ℤ → Sums
 one t x y = record { n = only t (pos 1); s = only t x; t = only t y; a = only t (x *ℤ x); b = only t (y *ℤ y); p = only t (x *ℤ y) }
 

@@ -192,13 +192,13 @@ pub coefficient_range : (z : Sums) (c : ℤ) → coefficient_call z ≡ answered
 unfolding coefficient_call coefficient outcome refusal
 coefficient_range z c e = go (impossible z) refl (no_cell z) (is_zero (Vf z)) refl (is_zero (Vg z)) refl e
   where
-    shown : (m a b : Bool) → Coefficient
-    shown m a b = elim m [ true ↦ empty | false ↦ elim (a || b) [ true ↦ flat | false ↦ value (signed (covariance z) (magnitude z)) ] ]
+    chosen : (m a b : Bool) → Coefficient
+    chosen m a b = elim m [ true ↦ empty | false ↦ elim (a || b) [ true ↦ flat | false ↦ value (signed (covariance z) (magnitude z)) ] ]
 
-    told : {A : Type 0} → Bool → A → Outcome A
-    told t r = outcome (refusal ((9 when t) ∷ [])) r
+    refused-or : {A : Type 0} → Bool → A → Outcome A
+    refused-or t r = outcome (refusal ((9 when t) ∷ [])) r
 
-    go : (t : Bool) → impossible z ≡ t → (m : Bool) → (a : Bool) → is_zero (Vf z) ≡ a → (b : Bool) → is_zero (Vg z) ≡ b → told t (shown m a b) ≡ answered (value c) → nat_abs c ≤ 1000
+    go : (t : Bool) → impossible z ≡ t → (m : Bool) → (a : Bool) → is_zero (Vf z) ≡ a → (b : Bool) → is_zero (Vg z) ≡ b → refused-or t (chosen m a b) ≡ answered (value c) → nat_abs c ≤ 1000
     go true et m a ea b eb e = let y : ◌≡◌ {A = ℕ} 0 1 = cc in absurd (omega arith)
     go false et true a ea b eb e = let y : ◌≡◌ {A = ℕ} 0 1 = cc in absurd (omega arith)
     go false et false true ea b eb e = let y : ◌≡◌ {A = ℕ} 0 1 = cc in absurd (omega arith)
@@ -251,5 +251,5 @@ over-injective m n h k e =
     same (negsuc a) (pos b) s e = absurd (true≢false s)
     same (negsuc a) (negsuc b) s e = ap negsuc (omega arith)
 
-pub level-tells-mean : (y z : Sums) → Possible y → 0 < count y → Possible z → 0 < count z → over32768 (mean y) ≡ over32768 (mean z) → mean y ≡ mean z
-level-tells-mean y z p h q k e = over-injective (mean y) (mean z) (mean-bound y p h) (mean-bound z q k) e
+pub level-gives-mean : (y z : Sums) → Possible y → 0 < count y → Possible z → 0 < count z → over32768 (mean y) ≡ over32768 (mean z) → mean y ≡ mean z
+level-gives-mean y z p h q k e = over-injective (mean y) (mean z) (mean-bound y p h) (mean-bound z q k) e

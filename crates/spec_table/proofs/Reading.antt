@@ -103,13 +103,13 @@ module _ (x : Inputs) (ok : accepted x) (hf : Levels x.source.f) (hg : Levels x.
   unfolding table_of
   length-table = length-rows 0 x.source.frame.rows x.source.frame.columns (table_at (plane_at x.source))
 
-  -- building is taken, and fills the area with the table
+  -- building is accepted, and fills the area with the table
   pub build-fills : (area : List ℤ) → length area ≡ cells x.source.frame → build_call x.source area ≡ record { answer = answered tt; area = table_of x.source }
   unfolding build_call
-  build-fills area e = filling-none (refusal (build_checks x.source area)) area (table_of x.source) taken
+  build-fills area e = filling-none (refusal (build_checks x.source area)) area (table_of x.source) none-refused
     where
-      taken : refusal (build_checks x.source area) ≡ none
-      taken =
+      none-refused : refusal (build_checks x.source area) ≡ none
+      none-refused =
           let s = x.source in
           let a = accepted-has x ok in
           pass 1 (not (frame_legal s.frame)) _ (not-of (frame_legal s.frame) a.frame)
@@ -124,10 +124,10 @@ module _ (x : Inputs) (ok : accepted x) (hf : Levels x.source.f) (hg : Levels x.
   pub read-answers : (i j : ℕ) → i < x.source.frame.rows → j < x.source.frame.columns → read_call x.source.frame (table_of x.source) x.window i j ≡ answered (direct_sum x i j)
   unfolding read_call
   read-answers i j hi hj =
-      outcome-none (refusal (read_checks x.source.frame (table_of x.source) x.window i j)) (read_table x.source.frame (table_of x.source) x.window i j) taken ∙ ap answered (read-direct i j)
+      outcome-none (refusal (read_checks x.source.frame (table_of x.source) x.window i j)) (read_table x.source.frame (table_of x.source) x.window i j) none-refused ∙ ap answered (read-direct i j)
     where
-      taken : refusal (read_checks x.source.frame (table_of x.source) x.window i j) ≡ none
-      taken =
+      none-refused : refusal (read_checks x.source.frame (table_of x.source) x.window i j) ≡ none
+      none-refused =
           let z = x.source.frame in
           let a = accepted-has x ok in
           pass 1 (not (frame_legal z)) _ (not-of (frame_legal z) a.frame)

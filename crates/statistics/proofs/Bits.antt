@@ -27,12 +27,12 @@ module _ (v q c k : ℕ) (b : Between v q 1024 c (c + 2 ^ (10 - k))) (h : k < 10
   pub square-small : (c + 512 / 2 ^ k) * (c + 512 / 2 ^ k) ≤ 1024 * 1024
   square-small = mul-le-mul more-small more-small
 
-  pub taken : (c + 512 / 2 ^ k) * (c + 512 / 2 ^ k) * q ≤ v → Between v q 1024 (c + 512 / 2 ^ k) (c + 512 / 2 ^ k + 2 ^ (10 - (k + 1)))
-  taken l =
+  pub bit-set : (c + 512 / 2 ^ k) * (c + 512 / 2 ^ k) * q ≤ v → Between v q 1024 (c + 512 / 2 ^ k) (c + 512 / 2 ^ k + 2 ^ (10 - (k + 1)))
+  bit-set l =
       let top : c + 512 / 2 ^ k + 2 ^ (10 - (k + 1)) ≡ c + 2 ^ (10 - k) = omega (arith, after, worth k h, double k h) in
       record { order = omega (arith, top, worth k h, double k h, b.order); within = omega (arith, top, b.within); reached = l; passed = rw top b.passed }
 
-  pub left : v < (c + 512 / 2 ^ k) * (c + 512 / 2 ^ k) * q → Between v q 1024 c (c + 2 ^ (10 - (k + 1)))
-  left l =
+  pub bit-unset : v < (c + 512 / 2 ^ k) * (c + 512 / 2 ^ k) * q → Between v q 1024 c (c + 2 ^ (10 - (k + 1)))
+  bit-unset l =
       let top : c + 2 ^ (10 - (k + 1)) ≡ c + 512 / 2 ^ k = omega (arith, after, worth k h) in
       record { order = omega (arith, after, double k h, b.order); within = omega (arith, top, more-small); reached = b.reached; passed = rw top l }

@@ -75,7 +75,7 @@ module _ (z : Sums) (b : unbounded z ≡ false) (f : lt_z (Vf z) (pos 0) ≡ fal
   unfolding central_call
   given h = sym (answers-some z (central_moments z) possible h)
 
--- ---- within the bounds, what the three forms ask
+-- ---- within the bounds, what the three forms require
 module _ (z : Sums) (e : unbounded z ≡ false) where
   pub factors-f : Factors z.n z.s z.s z.a
   factors-f = let b = bounded-has z e in record { count = b.few; first = omega (arith, b.few, b.first); second = omega (arith, b.few, b.first); product = omega (arith, b.few, b.square_f) }

@@ -25,8 +25,8 @@ use Rattle.spec_statistics.specs.Coefficient.{empty, flat, value, signed, magnit
 use Rattle.spec_statistics.specs.Limits.{Correlated}
 use Rattle.spec_statistics.proofs.Bounds.{answers, schwarz-has}
 use Rattle.spec_statistics.proofs.Values.{magnitude-bound, size-signed}
-use Rattle.spec_statistics.proofs.Inner.{taken, vf-is, vg-is, c-is}
-use Rattle.spec_statistics.proofs.Answers.{empty-tells}
+use Rattle.spec_statistics.proofs.Inner.{moments-given, vf-is, vg-is, c-is}
+use Rattle.spec_statistics.proofs.Answers.{empty-has}
 
 -- where C is 0, so is c
 no-root : (r x : ℕ) → 0 < x → r * r * x ≤ 0 → r ≡ 0
@@ -45,17 +45,17 @@ sign-times (negsuc c) n h = neg-one-mulℤ (pos n)
 pub empty-answer : (z : Sums) → answered none ≡ central_call z → answered empty ≡ coefficient_call z
 unfolding coefficient_call coefficient
 empty-answer z e =
-    let t = empty-tells z e in
+    let t = empty-has z e in
     rw (answers z (coefficient z) t.possible, eq-eqb (count z) 0 t.is, coefficient)
 
 module _ (z : Sums) (m : CentralMoments) (e : answered (some m) ≡ central_call z) where
   pub flat-answer : (m.vf ≡ 0) ⊎ ((m.vf ≡ 0 → ⊥) × (m.vg ≡ 0)) → answered flat ≡ coefficient_call z
   unfolding coefficient_call coefficient
   flat-answer (inl f) =
-      let t = taken z m e in
+      let t = moments-given z m e in
       rw (answers z (coefficient z) t.possible, ne_eqb (count z) 0 t.some_cell, eq-eqb (nat_abs (Vf z)) 0 (sym (vf-is z m e) ∙ f), coefficient)
   flat-answer (inr g) =
-      let t = taken z m e in
+      let t = moments-given z m e in
       rw (answers z (coefficient z) t.possible, ne_eqb (count z) 0 t.some_cell, ne_eqb (nat_abs (Vf z)) 0 (λ k. g.0 (vf-is z m e ∙ k)), eq-eqb (nat_abs (Vg z)) 0 (sym (vg-is z m e) ∙ g.1), coefficient)
 
   -- x is Vf-as-Vg, and y is 1,000,000 C²
@@ -76,7 +76,7 @@ module _ (z : Sums) (m : CentralMoments) (e : answered (some m) ≡ central_call
     y-whole = let k : size ≡ nat_abs (covariance z) = simp (to_z-of_z, fits) at size-is ∙ ap nat_abs (c-is z m e) in rw (y-is, square-is, k)
 
     pub correlated : Correlated x y
-    correlated = rw (y-whole, x-whole) (record { some = some-x; small = mul-le-mul_left 1000000 (schwarz-has z (taken z m e).possible) })
+    correlated = rw (y-whole, x-whole) (record { some = some-x; small = mul-le-mul_left 1000000 (schwarz-has z (moments-given z m e).possible) })
 
     module _ (c : ℕ) (c-root : c ≡ root_over y x) (n : ℤ) (n-is : n ≡ pos c) (sign : ℤ) (sign-fits : SFits w64 sign) (sign-is : sign ≡ int_signum (to_z w64 (of_z w64 m.c))) where
       largest : c ≡ magnitude z
@@ -84,7 +84,7 @@ module _ (z : Sums) (m : CentralMoments) (e : answered (some m) ≡ central_call
       largest = rw (c-root, y-whole, x-whole)
 
       small : c ≤ 1000
-      small = omega (arith, largest, magnitude-bound z (taken z m e).possible some-x)
+      small = omega (arith, largest, magnitude-bound z (moments-given z m e).possible some-x)
 
       n-fits : SFits w64 n
       n-fits = rw n-is (record { sfits = omega (arith, small) })
@@ -107,6 +107,6 @@ module _ (z : Sums) (m : CentralMoments) (e : answered (some m) ≡ central_call
       pub value-answer : answered (value (to_z w64 (of_z w64 (to_z w64 (of_z w64 sign) *ℤ to_z w64 (of_z w64 n))))) ≡ coefficient_call z
       unfolding coefficient_call coefficient
       value-answer =
-          let t = taken z m e in
+          let t = moments-given z m e in
           simp (to_z-of_z, sign-fits, n-fits, times-fits)
           (rw (answers z (coefficient z) t.possible, ne_eqb (count z) 0 t.some_cell, ne_eqb (nat_abs (Vf z)) 0 some-f, ne_eqb (nat_abs (Vg z)) 0 some-g, coefficient, times))

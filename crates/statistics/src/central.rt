@@ -7,9 +7,9 @@ ghost use Rattle.spec_picture.specs.Answers.{optional_outcome};
 ghost use Rattle.spec_statistics.specs.Limits.{Factors};
 
 use crate::bounds::unbounded;
+use arithmetic::long_order::at_most;
+use arithmetic::long_product::multiply;
 use arithmetic::machine::magnitude;
-use arithmetic::wide::multiply;
-use arithmetic::wide_order::at_most;
 use spec_picture::Refusal;
 use spec_statistics::{CentralMoments, Sums};
 

@@ -9,14 +9,14 @@ ghost use Rattle.spec_statistics.specs.Answers.{coefficient_outcome};
 ghost use Rattle.spec_statistics.specs.Limits.{Correlated};
 
 use crate::central::central_moments;
+use arithmetic::long_order::scaled_at_most;
+use arithmetic::long_product::{Product, Scaled, multiply, scale};
 use arithmetic::machine::magnitude;
-use arithmetic::wide::{Product, Scaled, multiply, scale};
-use arithmetic::wide_order::scaled_at_most;
 use spec_picture::Refusal;
 use spec_statistics::{Coefficient, Sums};
 
 // The largest c with c²·x ≤ y, bit by bit from the top: c is at most 1,000, which ten bits hold.
-fn wide_root(y: Scaled, x: Product) -> u32
+fn long_root(y: Scaled, x: Product) -> u32
     requires { Correlated (value x) (scaled_value y) }
     ensures { result ≡ root_over (scaled_value y) (value x) }
 {
@@ -41,6 +41,6 @@ pub fn coefficient(z: Sums) -> Result<Coefficient, Refusal>
         return Ok(Coefficient::Flat);
     }
     let size = magnitude(m.c);
-    let largest = wide_root(scale(multiply(size, size), 1000000), multiply(m.vf, m.vg));
+    let largest = long_root(scale(multiply(size, size), 1000000), multiply(m.vf, m.vg));
     Ok(Coefficient::Value(m.c.signum() * i64::from(largest)))
 }

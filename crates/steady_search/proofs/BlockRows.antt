@@ -1,4 +1,4 @@
--- The search in a block of rows: where it finds no cell it goes on behind the block.
+-- The search in a block of rows: where it finds no cell it goes on after the block.
 -- Assumes nothing.
 use mathlib.Core.Path.{◌≡◌, sym, ◌∙◌, ap}
 use mathlib.Core.List.{List}
@@ -15,14 +15,14 @@ use Rattle.spec_smoothing.specs.Steady.{find_cell}
 use Rattle.row_session.specs.Blocks.{rows_in, Block}
 use Rattle.row_session.proofs.BlockSums.{block_sums}
 use Rattle.steady_search.proofs.Places.{no_row}
-use Rattle.steady_search.specs.Hearing.{steady_in}
+use Rattle.steady_search.specs.SteadyCells.{steady_in}
 use Rattle.steady_search.proofs.Voices.{RowsHeard, rows-steady}
 use Rattle.steady_search.proofs.Searching.{steady_at, steady_from, rows-passed, rows-found}
 
 -- the rows of the three blocks that begin at row i, where y, z and q are x on the three planes, as the code has it
-pub blocks-heard : (x y z q : Inputs) → y ≡ on_plane x 0 → z ≡ on_plane x 1 → q ≡ on_plane x 3 → (i m : ℕ) → m ≡ rows_in x i → {counts totals squares n s a : List ℤ} →
+pub blocks-voice_of_sums : (x y z q : Inputs) → y ≡ on_plane x 0 → z ≡ on_plane x 1 → q ≡ on_plane x 3 → (i m : ℕ) → m ≡ rows_in x i → {counts totals squares n s a : List ℤ} →
     Block y i counts n → Block z i totals s → Block q i squares a → RowsHeard x i m n s a
-blocks-heard x y z q ey ez eq i m m-is by bz bq = record {
+blocks-voice_of_sums x y z q ey ez eq i m m-is by bz bq = record {
   counted = block_sums (on_plane x 0) y ey i m m-is by;
   summed = block_sums (on_plane x 1) z ez i m m-is bz;
   squared = block_sums (on_plane x 3) q eq i m m-is bq;
@@ -36,8 +36,8 @@ module _ (x : Inputs) (i m : ℕ) (below : i < x.source.frame.rows) (m-is : m �
   rest = omega (arith, within)
 
   -- 16 rows further on
-  same-behind : steady_from x (i + m) ≡ steady_from x (i + 16)
-  same-behind = go (dec_lt (i + 16) x.source.frame.rows)
+  same-after : steady_from x (i + m) ≡ steady_from x (i + 16)
+  same-after = go (dec_lt (i + 16) x.source.frame.rows)
     where
       go : Dec (i + 16 < x.source.frame.rows) → steady_from x (i + m) ≡ steady_from x (i + 16)
       go (yes h) =
@@ -54,5 +54,5 @@ module _ (x : Inputs) (i m : ℕ) (below : i < x.source.frame.rows) (m-is : m �
     pub in_block : (at : Cell) → o ≡ some at → steady_from x i ≡ some (cell (i + at.row) at.column)
     in_block at e = rows-found (steady_at x) x.source.frame.columns i m x.source.frame.rows rest at (sym in-rows ∙ e)
 
-    pub behind-block : o ≡ none → steady_from x i ≡ steady_from x (i + 16)
-    behind-block e = rows-passed (steady_at x) x.source.frame.columns i m x.source.frame.rows rest (sym in-rows ∙ e) ∙ same-behind
+    pub after-block : o ≡ none → steady_from x i ≡ steady_from x (i + 16)
+    after-block e = rows-passed (steady_at x) x.source.frame.columns i m x.source.frame.rows rest (sym in-rows ∙ e) ∙ same-after

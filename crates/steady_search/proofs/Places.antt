@@ -19,16 +19,16 @@ use Rattle.spec_statistics.specs.Answers.{voice_of}
 use Rattle.spec_statistics.specs.declared.Voice as declared
 use Rattle.spec_statistics.specs.declared.Voice.TheVariants.{Empty, Steady, Grainy}
 use Rattle.spec_smoothing.specs.Steady.{is_steady, find_column, or_else, find_cell}
-use Rattle.steady_search.specs.Hearing.{first_sums, steady_in}
+use Rattle.steady_search.specs.SteadyCells.{first_sums, steady_in}
 
--- ---- one cell, by the voice that was heard
+-- ---- one cell, by the voice that was answered
 module _ (columns : ℕ) (n s a : List ℤ) (i j : ℕ) where
   abbrev place : ℕ
   place = i * columns + j
 
-  pub as-heard : (v : declared.Voice) → SFits w64 (at n place) → SFits w64 (at s place) → SFits w64 (at a place) →
+  pub as-answered : (v : declared.Voice) → SFits w64 (at n place) → SFits w64 (at s place) → SFits w64 (at a place) →
       voice_of v ≡ voice (first_sums (to_z w64 (of_z w64 (at n place))) (to_z w64 (of_z w64 (at s place))) (to_z w64 (of_z w64 (at a place)))) → steady_in columns n s a i j ≡ is_steady (voice_of v)
-  as-heard v f g h e = ap is_steady (sym (simp (to_z-of_z, f, g, h) at e))
+  as-answered v f g h e = ap is_steady (sym (simp (to_z-of_z, f, g, h) at e))
 
 -- a voice that is passed over
 pub other : (v : declared.Voice) → ((level : Float) → v ≡ Steady level → ⊥) → is_steady (voice_of v) ≡ false

@@ -1,4 +1,4 @@
--- The search in parts: the rows from a row on, and those behind them.
+-- The search in parts: the rows from a row on, and those after them.
 -- Assumes nothing.
 use mathlib.Core.Path.{◌≡◌, refl, ◌∙◌, ap}
 use Prim.Native.Nat.{ℕ, zero, suc, ◌+◌, ◌-◌, ◌<◌}
@@ -17,17 +17,17 @@ abbrev either : Option Cell → Option Cell → Option Cell
 either none later = later
 either (some c) later = some c
 
-parted : (test : ℕ → ℕ → Bool) (columns i m k : ℕ) → find_cell test columns i (m + k) ≡ either (find_cell test columns i m) (find_cell test columns (i + m) k)
+in-two-searches : (test : ℕ → ℕ → Bool) (columns i m k : ℕ) → find_cell test columns i (m + k) ≡ either (find_cell test columns i m) (find_cell test columns (i + m) k)
 unfolding find_cell or_else
-parted test columns i zero k =
+in-two-searches test columns i zero k =
     let a : 0 + k ≡ k = omega arith in
     let b : i + 0 ≡ i = omega arith in
     rw (a, b)
-parted test columns i (suc m) k =
+in-two-searches test columns i (suc m) k =
     let a : suc m + k ≡ suc (m + k) = omega arith in
     let b : suc i + m ≡ i + suc m = omega arith in
     ap (find_cell test columns i) a
-    ∙ go (find_column (test i) 0 columns) (parted test columns (suc i) m k ∙ ap (λ (n : ℕ). either (find_cell test columns (suc i) m) (find_cell test columns n k)) b)
+    ∙ go (find_column (test i) 0 columns) (in-two-searches test columns (suc i) m k ∙ ap (λ (n : ℕ). either (find_cell test columns (suc i) m) (find_cell test columns n k)) b)
   where
     go : (o : Option ℕ) → find_cell test columns (suc i) (m + k) ≡ either (find_cell test columns (suc i) m) (find_cell test columns (i + suc m) k) →
         or_else i o (find_cell test columns (suc i) (m + k)) ≡ either (or_else i o (find_cell test columns (suc i) m)) (find_cell test columns (i + suc m) k)
@@ -38,7 +38,7 @@ row_of : Option Cell → ℕ
 row_of none = 0
 row_of (some c) = c.row
 
--- a cell that is found stands in one of the rows
+-- a cell that is found is in one of the rows
 pub found-within : (test : ℕ → ℕ → Bool) (columns i n : ℕ) (c : Cell) → find_cell test columns i n ≡ some c → c.row < i + n
 unfolding find_cell or_else row_of
 found-within test columns i zero c e = cc
@@ -72,7 +72,7 @@ module _ (test : ℕ → ℕ → Bool) (columns i m n : ℕ) (rest : n - i ≡ m
   both : find_cell test columns i (n - i) ≡ either (moved i (find_cell (λ r. test (i + r)) columns 0 m)) (find_cell test columns (i + m) (n - (i + m)))
   both =
       let b : i ≡ i + 0 = omega arith in
-      ap (find_cell test columns i) rest ∙ parted test columns i m (n - (i + m))
+      ap (find_cell test columns i) rest ∙ in-two-searches test columns i m (n - (i + m))
       ∙ ap (λ (o : Option Cell). either o (find_cell test columns (i + m) (n - (i + m)))) (ap (λ (a : ℕ). find_cell test columns a m) b ∙ counted test columns i 0 m)
 
   pub rows-passed : find_cell (λ r. test (i + r)) columns 0 m ≡ none → find_cell test columns i (n - i) ≡ find_cell test columns (i + m) (n - (i + m))

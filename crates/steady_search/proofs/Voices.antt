@@ -18,7 +18,7 @@ use Rattle.spec_statistics.proofs.Bounds.{possible-has, possible-of, answers}
 use Rattle.spec_statistics.proofs.Possible.{sums-possible}
 use Rattle.spec_smoothing.specs.Steady.{is_steady, find_cell, first_steady}
 use Rattle.row_session.specs.Blocks.{RowSums}
-use Rattle.steady_search.specs.Hearing.{first_sums, sums_at, steady_in}
+use Rattle.steady_search.specs.SteadyCells.{first_sums, sums_at, steady_in}
 use Rattle.steady_search.proofs.Places.{same-cells}
 use Rattle.steady_search.proofs.Searching.{steady_at}
 

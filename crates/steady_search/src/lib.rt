@@ -2,7 +2,7 @@
 // What it takes goes one by one: it has no plane, so it has not all that `Inputs` has.
 #![tactic(auto, unfolding(spec_picture::specs::Refusal::outcome, spec_smoothing::specs::Steady::steady_call))]
 
-pub mod hearing; // hearing.rt: the first steady cell of a block of rows
+pub mod steady_cells; // steady_cells.rt: the first steady cell of a block of rows
 pub mod search; // search.rt: all rows, 16 at a time
 
 ghost use Rattle.std.specs.Prelude.{◌≡◌};

@@ -6,8 +6,8 @@ ghost use Rattle.spec_picture.specs.Answers.{option_of};
 ghost use Rattle.spec_picture.specs.Checked.{checked_inputs};
 ghost use Rattle.spec_smoothing.specs.Steady.{first_steady};
 
-use crate::hearing;
-use row_session::blocks::next;
+use crate::steady_cells;
+use row_session::blocks::next_block;
 use spec_picture::{Cell, CheckedInputs, Plane};
 use windows::clip;
 
@@ -29,11 +29,11 @@ pub fn by_blocks(inputs: &CheckedInputs<'_>) -> Option<Cell>
     let mut a = [0i64; 16384];
     for block in 0..rows.div_ceil(16) {
         let i = 16 * block;
-        next(i, &ones, &mut counts, &mut n);
-        next(i, &levels, &mut totals, &mut s);
-        next(i, &level_squares, &mut squares, &mut a);
+        next_block(i, &ones, &mut counts, &mut n);
+        next_block(i, &levels, &mut totals, &mut s);
+        next_block(i, &level_squares, &mut squares, &mut a);
         let count = clip::high(i, 15, rows) - i;
-        if let Some(cell) = hearing::first(count, columns, &n, &s, &a) {
+        if let Some(cell) = steady_cells::first_steady_cell(count, columns, &n, &s, &a) {
             return Some(Cell {
                 row: i + cell.row,
                 column: cell.column,

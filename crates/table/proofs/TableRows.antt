@@ -32,7 +32,7 @@ row-of-part P i {m} {n} size above part out e w =
     row-as width above (at part) (P i) out w
     (λ q q<. ap (λ (l : List ℤ). at l q) e ∙ get_d_tabulate m q (P i) (pos 0) (omega arith))
 
--- what stands above row i at column j: T of the row above, and 0 above the first
+-- what is above row i at column j: T of the row above, and 0 above the first
 abbrev pub above_row : (ℕ → ℕ → ℤ) → (i j : ℕ) → ℤ
 above_row P i j = sum_to i (λ p. sum_to (suc j) (λ q. P p q))
 
@@ -66,25 +66,25 @@ module _ (P : ℕ → ℕ → ℤ) (small : (m n : ℕ) → nat_abs (P m n) ≤ 
 
   -- a row more, written below i rows of the table
   module _ (c : ℕ) (few : c ≤ 1024) where
-    rows-more : (i : ℕ) (above before row behind : List ℤ) → i < 256 → length before ≡ i * c → Lines (table_at P) c before i → ((j : ℕ) → j < c → at above j ≡ above_row P i j) → row ≡ tabulate c (row_number above (P i)) →
-        Lines (table_at P) c (before ++ (row ++ behind)) (i + 1)
-    rows-more i above before row behind hi width u upper e =
-        lines_next (table_at P) c before (before ++ (row ++ behind)) i (length before) u width (λ k k<. get_or-append before (row ++ behind) (pos 0) k k<)
-        (λ j j<. get_or-append-add before (row ++ behind) j (pos 0)
-        ∙ get_or-append row behind (pos 0) j (omega (arith, tabulated-length row c _ e))
+    rows-more : (i : ℕ) (above before row after : List ℤ) → i < 256 → length before ≡ i * c → Lines (table_at P) c before i → ((j : ℕ) → j < c → at above j ≡ above_row P i j) → row ≡ tabulate c (row_number above (P i)) →
+        Lines (table_at P) c (before ++ (row ++ after)) (i + 1)
+    rows-more i above before row after hi width u upper e =
+        lines_next (table_at P) c before (before ++ (row ++ after)) i (length before) u width (λ k k<. get_or-append before (row ++ after) (pos 0) k k<)
+        (λ j j<. get_or-append-add before (row ++ after) j (pos 0)
+        ∙ get_or-append row after (pos 0) j (omega (arith, tabulated-length row c _ e))
         ∙ ap (λ (l : List ℤ). at l j) e
         ∙ get_d_tabulate c j (row_number above (P i)) (pos 0) j<
         ∙ next-table above i j hi (omega arith) (upper j j<))
 
-    -- above the first stands nothing
-    pub first-rows : (row behind : List ℤ) → row ≡ tabulate c (row_number [] (P 0)) → Lines (table_at P) c (row ++ behind) 1
-    first-rows row behind e = rows-more 0 [] [] row behind (omega arith) (sym (zero-mul c)) (lines_none _ _ _) (λ j j<. above-none P j) e
+    -- nothing is above the first
+    pub first-rows : (row after : List ℤ) → row ≡ tabulate c (row_number [] (P 0)) → Lines (table_at P) c (row ++ after) 1
+    first-rows row after e = rows-more 0 [] [] row after (omega arith) (sym (zero-mul c)) (lines_none _ _ _) (λ j j<. above-none P j) e
 
     -- and above a later one the last of the rows before it
-    pub next-rows : (i : ℕ) (table before row behind : List ℤ) → 1 ≤ i → i < 256 → length before ≡ i * c → before ≡ take (i * c) table → Lines (table_at P) c table i →
-        row ≡ tabulate c (row_number (take (length before - (i - 1) * c) (drop ((i - 1) * c) before)) (P i)) → Lines (table_at P) c (before ++ (row ++ behind)) (i + 1)
-    next-rows zero table before row behind some hi width front u e = absurd (omega arith)
-    next-rows (suc m) table before row behind some hi width front u e = rows-more (suc m) above before row behind hi width v upper e
+    pub next-rows : (i : ℕ) (table before row after : List ℤ) → 1 ≤ i → i < 256 → length before ≡ i * c → before ≡ take (i * c) table → Lines (table_at P) c table i →
+        row ≡ tabulate c (row_number (take (length before - (i - 1) * c) (drop ((i - 1) * c) before)) (P i)) → Lines (table_at P) c (before ++ (row ++ after)) (i + 1)
+    next-rows zero table before row after some hi width front u e = absurd (omega arith)
+    next-rows (suc m) table before row after some hi width front u e = rows-more (suc m) above before row after hi width v upper e
       where
         lo : ℕ
         lo = (suc m - 1) * c

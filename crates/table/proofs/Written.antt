@@ -35,7 +35,7 @@ module _ {above : List ℤ} {row : ℕ → ℤ} {old now : List ℤ} {sum : ℤ}
   pub written_all : length old ≤ j → now ≡ tabulate (length old) (row_number above row)
   written_all all = upto_all w.numbers all
 
--- the same where nothing stands above
+-- the same where nothing is above
 pub first_more : {row : ℕ → ℤ} {old now : List ℤ} {sum : ℤ} {j : ℕ} → Written [] row old now sum j → (x next : ℤ) → j < length old → x ≡ row j → next ≡ wrap (sum +ℤ x) → Written [] row old (set now j next) next (j + 1)
 first_more {row} {old} {now} {sum} {j} w x next room value is-next =
     written-more w x next next room value is-next (is-next ∙ sym (wrap-wrap (sum +ℤ x)) ∙ sym (ap wrap (+ℤ_idl next ∙ is-next)))

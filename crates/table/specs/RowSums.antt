@@ -8,6 +8,6 @@ use Rattle.numbers.specs.Wrap.{wrap}
 abbrev pub number : List ℤ → (j : ℕ) → ℤ
 number l j = get_or l j (pos 0)
 
--- the table's number at column j of a row: the number above (0 where nothing stands above), and the sum of the plane's row up to it
+-- the table's number at column j of a row: the number above (0 where nothing is above), and the sum of the plane's row up to it
 abbrev pub row_number : (above : List ℤ) (row : ℕ → ℤ) → (j : ℕ) → ℤ
 row_number above row j = wrap (number above j +ℤ sum_to (suc j) row)

@@ -10,7 +10,7 @@ ghost use Rattle.spec_picture.specs.Picture.{plane_at};
 ghost use Rattle.spec_picture.specs.Checked.{checked_source};
 ghost use Rattle.table.specs.RowSums.{row_number};
 ghost use Rattle.spec_table.specs.Table.{table_of};
-ghost use Rattle.table.specs.Fill.{RowAsked};
+ghost use Rattle.table.specs.Fill.{RowRequires};
 
 use crate::level_sums::next_levels;
 use crate::row_sums::{first_row, next_row};
@@ -28,7 +28,7 @@ fn table_row(
     buffer: &mut [i16],
     row: &mut [i64],
 )
-    requires { RowAsked source.now.frame i above.now buffer.old row.old }
+    requires { RowRequires source.now.frame i above.now buffer.old row.old }
     ensures { row.new ≡ tabulate source.now.frame.columns (row_number above.now (plane_at (checked_source source.now) i)) }
 {
     let view = view_of(source);
@@ -47,12 +47,12 @@ fn table_row(
 }
 
 // The whole table, row by row.
-pub fn whole(source: &CheckedSource<'_>, table: &mut [i64])
+pub fn fill_table(source: &CheckedSource<'_>, table: &mut [i64])
     requires { length table.old ≡ cells source.now.frame }
     ensures { table.new ≡ table_of (checked_source source.now) }
 {
     let columns = source.frame.columns;
-    // Room for the widest row, since there is no heap.
+    // A buffer for the widest row, since there is no heap.
     let mut levels = [0i16; 1024];
     let first = &mut table[..columns];
     planes::plane_row(source, 0, first);

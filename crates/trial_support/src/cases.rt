@@ -75,7 +75,7 @@ impl Case {
         let cells = self.cells().min(CELLS);
         Pictures {
             f: random::picture(cells, self.seed),
-            g: random::picture(cells, random::next(self.seed)),
+            g: random::picture(cells, random::next_state(self.seed)),
             cells,
         }
     }

@@ -36,8 +36,8 @@ fn stirred(checksum: u64, half: u64) -> u64 {
     (checksum % 4294967291) * 279470273 % 4294967291 + half % 4294967296
 }
 
-// What is compared, and what the checksum takes of it: numbers by halves, parted by a remainder, since a cast asks that the number fits. No `Hash`: its hasher
-// would give other numbers than the checksums that stand written.
+// What is compared, and what the checksum takes of it: numbers by halves, split by a remainder, since a cast asks that the number fits. No `Hash`: its hasher
+// would give other numbers than the checksums that are written down.
 pub trait Compared: PartialEq + Copy + Drop {
     fn stir(self, checksum: u64) -> u64;
 }

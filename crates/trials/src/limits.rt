@@ -5,7 +5,7 @@ use trial_support::cases::Case;
 use trial_support::rival::Given;
 use trial_support::tally::Tally;
 
-// A line of the list: rows, columns, the window's shape and its two numbers, and the refusal, none where the case is to be taken.
+// A line of the list: rows, columns, the window's shape and its two numbers, and the refusal, none where the case is to be accepted.
 type Line = (usize, usize, u32, usize, usize, Option<Refusal>);
 
 // "256 rows pass, 0 and 257 give 1", and so for columns; "radius 127 passes, 128 gives 3", and so for the numbers of the other

@@ -6,12 +6,12 @@ use trial_support::rival::{Given, total};
 use trial_support::tally::Tally;
 use trial_support::{cases, random};
 
-// How many numbers an area has: 5 rows of 1,024, and one behind them.
+// How many numbers an area has: 5 rows of 1,024, and one number after them.
 const ROOM: usize = 5121;
 
-// Where a list of calls stands: its position, and both areas. Arrays, since the trials have no heap.
+// What a list of calls has come to: its position, and both areas. Arrays, since the trials have no heap.
 #[derive(Clone, Copy)]
-struct Stand {
+struct Progress {
     position: usize,
     work: [i64; ROOM],
     out: [i64; ROOM],
@@ -19,7 +19,7 @@ struct Stand {
 
 // The number of the work area at a cell's column after its row. A call on a foreign work area adds to each of its numbers what the steps add to the definition's, so it
 // is found without the steps: as the definition's there, less the definition's at the row before the call.
-fn work(given: Given, before: &Stand, fresh: bool, cell: Cell) -> i64 {
+fn work(given: Given, before: &Progress, fresh: bool, cell: Cell) -> i64 {
     let defined = given.work(cell);
     match before.position.checked_sub(1) {
         Some(row) if !fresh => {
@@ -32,7 +32,7 @@ fn work(given: Given, before: &Stand, fresh: bool, cell: Cell) -> i64 {
 
 // The output number at a cell: of a fresh session the direct sum; "the wrapped sum of the new work area over columns j-b to j+b inside the picture; for the others ..
 // the new work area".
-fn output(given: Given, before: &Stand, fresh: bool, on: Cell) -> i64 {
+fn output(given: Given, before: &Progress, fresh: bool, on: Cell) -> i64 {
     let c = given.case;
     match (fresh, c.shape) {
         (true, _) => given.sum(on),
@@ -48,10 +48,10 @@ fn output(given: Given, before: &Stand, fresh: bool, on: Cell) -> i64 {
 }
 
 // Where the rival leaves the list after a call that grants so many rows.
-fn granted(given: Given, fresh: bool, request: usize, before: &Stand) -> Stand {
+fn granted(given: Given, fresh: bool, request: usize, before: &Progress) -> Progress {
     let c = given.case;
     let end = before.position.saturating_add(request);
-    let mut after = Stand {
+    let mut after = Progress {
         position: end,
         ..*before
     };
@@ -82,8 +82,8 @@ fn refused(c: Case, position: usize, request: usize, lent: usize) -> Option<Refu
     }
 }
 
-// One call, in seven of eight with an output area of the length that it wants: its answer, the position, and both areas with a number behind them.
-fn call(given: Given, fresh: bool, n: u64, before: Stand, t: Tally) -> (Stand, Tally) {
+// One call, in seven of eight with an output area of the length that it wants: its answer, the position, and both areas with a number after them.
+fn call(given: Given, fresh: bool, n: u64, before: Progress, t: Tally) -> (Progress, Tally) {
     let c = given.case;
     let request = [1usize, 2, 3, 0, 5, 300][(n / 64 % 6) as usize];
     let wrong = usize::from(n / 4096 % 8 == 0);
@@ -117,7 +117,7 @@ fn session(case: Case, fresh: bool, tally: Tally) -> Tally {
     let given = Given::new(case, &pictures);
     let foreign = (case.seed / 16 % 32) as usize;
     let area = random::foreign(ROOM, case.seed);
-    let mut stand = Stand {
+    let mut progress = Progress {
         position: if fresh { 0 } else { foreign },
         work: area,
         out: area,
@@ -125,8 +125,8 @@ fn session(case: Case, fresh: bool, tally: Tally) -> Tally {
     let mut t = tally;
     for k in 0..9usize {
         let n = random::at(case.seed, k);
-        let (after, compared) = call(given, fresh, n, stand, t);
-        stand = after;
+        let (after, compared) = call(given, fresh, n, progress, t);
+        progress = after;
         t = compared;
     }
     t

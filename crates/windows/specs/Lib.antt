@@ -1,1 +1,1 @@
-pub mod Crossings
+pub mod ChooseMethod

@@ -3,7 +3,7 @@
 ghost use Rattle.std.specs.Prelude.{◌≡◌, suc, ◌+◌, ◌-◌, ◌<◌, min};
 ghost use Rattle.numbers.specs.Sum.{dist};
 
-// The first place at most r before i. std's method: it has a name here, so that its promise in the words of the definitions stands once.
+// The first place at most r before i. std's method: it has a name here, so that its promise in the words of the definitions is stated once.
 pub fn low(i: usize, r: usize) -> usize
     ensures { result ≡ i - r }
 {

@@ -79,8 +79,8 @@ fn compare(text: &[u8], room: usize) {
     let before = vec![b'?'; room];
     let mut out = Guarded::new(&before, b'!');
     let written = panel(text, out.area()).map(<[u8]>::len);
-    let shown = String::from_utf8_lossy(text);
-    assert_eq!(written, Ok(expected.len()), "given {shown}");
+    let given_text = String::from_utf8_lossy(text);
+    assert_eq!(written, Ok(expected.len()), "given {given_text}");
     let area = [expected.as_bytes(), &before[expected.len()..]].concat();
     out.expect(&area, b'!');
 }
@@ -89,16 +89,16 @@ fn compare(text: &[u8], room: usize) {
 fn panels() {
     let mut random = Random(11);
     let mut refused = [0; 11];
-    let mut taken = 0;
+    let mut accepted = 0;
     for _ in 0..6_000 {
         let text = text(&mut random);
         compare(&text, PANEL_ROOM + random.below(2));
         match rival::panel(&text).strip_prefix("refused ") {
             Some(number) => refused[number.trim_end().parse::<usize>().unwrap()] += 1,
-            None => taken += 1,
+            None => accepted += 1,
         }
     }
-    assert!(taken > 500 && refused[1] > 50 && refused[3] > 50 && refused[10] > 500, "{taken} taken, refused {refused:?}");
+    assert!(accepted > 500 && refused[1] > 50 && refused[3] > 50 && refused[10] > 500, "{accepted} accepted, refused {refused:?}");
 }
 
 #[test]

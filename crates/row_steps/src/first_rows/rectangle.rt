@@ -11,7 +11,7 @@ use spec_picture::CheckedSource;
 use windows::clip;
 
 // Row 0: the column sums over rows 0 to a. None leaves: past the picture's last row no cell counts.
-pub fn first(source: &CheckedSource<'_>, a: usize, work: &mut [i64])
+pub fn column_sums(source: &CheckedSource<'_>, a: usize, work: &mut [i64])
     requires { length work.old ≡ source.now.frame.columns }
     ensures { work.new ≡ tabulate source.now.frame.columns (column_sum source.now.frame (plane_at (checked_source source.now)) a 0) }
 {

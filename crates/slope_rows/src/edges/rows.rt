@@ -3,12 +3,12 @@ ghost use Rattle.std.specs.Prelude.{suc, map};
 ghost use Rattle.spec_picture.specs.Window.{shape_of};
 ghost use Rattle.spec_picture.specs.Checked.{given, checked_inputs};
 ghost use Rattle.spec_rows.specs.Rows.{strip, Advanced};
-ghost use Rattle.slope_rows.specs.Edges.{plane_in, AfterAsked, TopAsked, TopDone, FromAsked, FromDone};
+ghost use Rattle.slope_rows.specs.Edges.{plane_in, AfterRequires, TopRequires, TopDone, FromRequires, FromDone};
 
 use crate::kept_slopes::SlantedInputs;
+use crate::next_row;
 use crate::places::CallRow;
-use crate::row;
-use crate::slope_starts::{first, start};
+use crate::slope_starts::{first_row, start};
 use direct_sum::window_sums;
 use slope_loops::loops::Slope;
 use slope_loops::padding::{ABOVE, PlaneValue, ROW_LENGTH};
@@ -35,7 +35,7 @@ fn after<S: Slope>(
     work: &mut [i64],
     out: &mut [i64],
 )
-    requires { AfterAsked S.Value.holds slanted.now rows (map S.Value.value a.old) (map S.Value.value b.old) (map S.Value.value c.old) (map S.sum rises.old) (map S.sum falls.old) work.old out.old }
+    requires { AfterRequires S.Value.holds slanted.now rows (map S.Value.value a.old) (map S.Value.value b.old) (map S.Value.value c.old) (map S.sum rises.old) (map S.sum falls.old) work.old out.old }
     ensures { Advanced (strip slanted.now.inputs.source.frame (plane_in slanted.now) (shape_of (given slanted.now.inputs.window)) (suc rows.row) rows.count work.old) work.new out.new }
 {
     let columns = slanted.inputs.source.frame.columns;
@@ -46,7 +46,7 @@ fn after<S: Slope>(
             row: rows.row + m,
             moved: m,
         };
-        row(
+        next_row(
             slanted,
             here,
             a,
@@ -60,7 +60,7 @@ fn after<S: Slope>(
     }
 }
 
-// Where the rows are fresh, row 0 by its slopes: its sums, and its row at the front of out. The answer is the place behind it.
+// Where the rows are fresh, row 0 by its slopes: its sums, and its row at the front of out. The answer is the place after it.
 fn top_row<S: Slope>(
     fresh: bool,
     slanted: &SlantedInputs<'_>,
@@ -69,20 +69,20 @@ fn top_row<S: Slope>(
     work: &mut [i64],
     out: &mut [i64],
 ) -> usize
-    requires { TopAsked slanted.now fresh (map S.sum rises.now) (map S.sum falls.now) work.old out.old }
+    requires { TopRequires slanted.now fresh (map S.sum rises.now) (map S.sum falls.now) work.old out.old }
     ensures { TopDone (checked_inputs slanted.now.inputs) fresh work.old work.new out.new result }
 {
     if !fresh {
         return 0;
     }
     let columns = slanted.inputs.source.frame.columns;
-    let corner = Cell { row: 0, column: 0 };
-    let sum = window_sums::sum(&slanted.inputs, corner);
-    first(sum, rises, falls, work, &mut out[..columns]);
+    let first_cell = Cell { row: 0, column: 0 };
+    let sum = window_sums::sum(&slanted.inputs, first_cell);
+    first_row(sum, rises, falls, work, &mut out[..columns]);
     columns
 }
 
-// n rows behind row i, and row 0 before them where they are fresh.
+// n rows after row i, and row 0 before them where they are fresh.
 // One function for both, which the flag tells apart: with two callers of the loops the compiler did not put them where the arrays are made, and 256 rows over a diamond
 // of 2 took 1.65 times as long.
 // The rows and slopes are five arrays, for the widest row with its margins, since there is no heap, and no struct: over the fields of one the loops took 1.1 times as long or more, as the compiler does not see that they lie apart.
@@ -94,7 +94,7 @@ pub fn rows_from<S: Slope>(
     work: &mut [i64],
     out: &mut [i64],
 )
-    requires { FromAsked S.Value.holds slanted.now fresh i n work.old out.old }
+    requires { FromRequires S.Value.holds slanted.now fresh i n work.old out.old }
     ensures { FromDone (checked_inputs slanted.now.inputs) fresh i n work.old work.new out.new }
 {
     let mut a = [S::Value::zero(); ROW_LENGTH];

@@ -1,7 +1,7 @@
 -- `panel_text::panel_levels::read_levels` meets its contract. Assumes nothing.
 use Rattle.std.proofs.Common.{FitsSigned, w32, rules, sym, ◌∙◌, ap, ◌∷◌}
 use Rattle.std.proofs.lemmas.Int.{to_z-of_z}
-use Rattle.panel_text.specs.Levels.{levels_told}
+use Rattle.panel_text.specs.Levels.{levels_if_read}
 use Rattle.panel_text.proofs.Levels.{levels-first, level-missing, level-malformed, level-beyond, levels-more, levels-last, beyond-16-bits, within-16-bits}
 use Rattle.panel_text.proofs.panel_levels.read_levels.Goals as goal
 
@@ -28,4 +28,4 @@ loop-level-preserved c =
     (rw within.1.0 (levels-more _ _ _ _ _ c.loop-level.invariant c.loop-level-test.true _ _ (c.in_ok-next.ensures.steps ∙ ap (λ n. n ∷ c.next.new.self) c.in_ok-branch.was) within.0))
 
 pub returns : goal.returns
-returns c = levels-last _ _ _ _ _ c.loop-level.invariant c.loop-level-test.false c.next-2.result _ c.next-2.ensures.steps c.is_none.result c.is_none.ensures ∙ ap (λ r. levels_told r c.loop-level.levels) (sym c.then_some.ensures)
+returns c = levels-last _ _ _ _ _ c.loop-level.invariant c.loop-level-test.false c.next-2.result _ c.next-2.ensures.steps c.is_none.result c.is_none.ensures ∙ ap (λ r. levels_if_read r c.loop-level.levels) (sym c.then_some.ensures)

@@ -5,7 +5,7 @@ use Rattle.spec_picture.specs.Checked.{checked_source}
 use Rattle.plane_rows.specs.declared.factors.Factor.TheVariants.{One}
 use Rattle.plane_rows.proofs.FactorLaws.{plane-level, plane-product}
 use Rattle.plane_rows.proofs.LevelParts.{plane-0}
-use Rattle.row_loops.proofs.Entering.{gained, by-64}
+use Rattle.row_loops.proofs.Entering.{added-same, by-64}
 use Rattle.row_loops.proofs.enter_and_leave.columns_that_count.Goals as goal
 
 pub returns-in-Level-One : goal.returns-in-Level-One
@@ -13,7 +13,7 @@ returns-in-Level-One c =
     let v = c.args.view.now in
     let x = checked_source v.source in
     let plane = plane-level x One (rw c.in-Level-One.field-0-is at c.in-Level-One.ensures.values) in
-    gained _ _ _ _ c.add_number.ensures
+    added-same _ _ _ _ c.add_number.ensures
     (λ k k<.
     let from = le-add_right v.columns.first k in
     let upto : v.columns.first + k < v.columns.end = omega (arith, c.requires) in
@@ -26,14 +26,14 @@ returns-in-Level c =
     let e = c.part-entering.ensures in
     let l = c.part.ensures in
     let plane = plane-level (checked_source c.args.view.now.source) _ c.in-Level.ensures.values in
-    gained _ _ _ _ c.exchange_levels.ensures (λ k k<. ap₂ ◌-ℤ◌ (e.same k (omega (arith, e.size, c.requires)) ∙ sym (plane _ _)) (l.same k (omega (arith, l.size, c.requires)) ∙ sym (plane _ _)))
+    added-same _ _ _ _ c.levels_enter_and_leave.ensures (λ k k<. ap₂ ◌-ℤ◌ (e.same k (omega (arith, e.size, c.requires)) ∙ sym (plane _ _)) (l.same k (omega (arith, l.size, c.requires)) ∙ sym (plane _ _)))
 
 pub returns-in-Square : goal.returns-in-Square
 returns-in-Square c =
     let a = c.part-a.ensures in
     let l = c.part-c.ensures in
     let plane = plane-product (checked_source c.args.view.now.source) _ _ c.in-Square.ensures.values in
-    gained _ _ _ _ c.exchange_products.ensures
+    added-same _ _ _ _ c.products_enter_and_leave.ensures
     (λ k k<.
     let e = a.same k (omega (arith, a.size, c.requires)) in
     let f = l.same k (omega (arith, l.size, c.requires)) in
@@ -46,7 +46,7 @@ returns-in-Product c =
     let l = c.part-c-in-Product.ensures in
     let d = c.part-d.ensures in
     let plane = plane-product (checked_source c.args.view.now.source) _ _ c.in-Product.ensures.values in
-    gained _ _ _ _ c.exchange_products-in-Product.ensures
+    added-same _ _ _ _ c.products_enter_and_leave-in-Product.ensures
     (λ k k<.
     ap₂ ◌-ℤ◌ (ap₂ ◌*ℤ◌ (a.same k (omega (arith, a.size, c.requires))) (b.same k (omega (arith, b.size, c.requires))) ∙ sym (plane _ _))
     (ap₂ ◌*ℤ◌ (l.same k (omega (arith, l.size, c.requires))) (d.same k (omega (arith, d.size, c.requires))) ∙ sym (plane _ _)))

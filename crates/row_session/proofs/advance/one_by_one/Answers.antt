@@ -26,7 +26,7 @@ loop-k-preserved c =
     let z = c.args.inputs.now.source.frame in
     let start = l.k * z.columns in
     let ends : start + z.columns ≤ length l.out = omega (arith, l.invariant.1, c.requires.room, line-end l.k c.args.n z.columns c.loop-k-test.true) in
-    let call = c.next in
+    let call = c.next_row in
     let span : start + z.columns - start ≡ z.columns = omega arith in
     let written : length call.new.out ≡ z.columns = call.auto.out ∙ slice-length start (start + z.columns) l.out (omega arith) ends ∙ span in (
       omega (arith, c.loop-k-test.true),

@@ -10,8 +10,8 @@ use Rattle.numbers.proofs.Writes.{tabulate-at}
 use Rattle.spec_picture.specs.Window.{shape_of, reach}
 use Rattle.spec_picture.specs.Picture.{plane_at}
 use Rattle.spec_picture.specs.Checked.{given, checked_source}
-use Rattle.row_loops.specs.Across.{neighbour_sum}
-use Rattle.row_steps.proofs.AcrossRows.{added-across}
+use Rattle.row_loops.specs.SlidingSums.{neighbour_sum}
+use Rattle.row_steps.proofs.NeighbourSums.{added-neighbours}
 use Rattle.row_steps.proofs.first_rows.reaching.Goals as goal
 
 pub returns : goal.returns
@@ -21,6 +21,6 @@ returns c =
     let part = c.plane_row in
     let cells = part.new.out in
     let whole : length cells ≡ columns = part.auto.out ∙ c.requires.room in
-    added-across columns (reach (shape_of (given c.args.inputs.now.window)) c.args.m) (plane c.args.m) c.args.work.now _ cells _ whole
+    added-neighbours columns (reach (shape_of (given c.args.inputs.now.window)) c.args.m) (plane c.args.m) c.args.work.now _ cells _ whole
     (λ n n<. ap wrap (tabulate-at cells _ _ part.ensures n (omega (arith, whole))))
-    (c.across.ensures ∙ ap (λ (k : ℕ). tabulate (length cells) (neighbour_sum cells k)) c.reach-k.ensures) c.requires.step.room_work c.add.ensures
+    (c.neighbour_sums.ensures ∙ ap (λ (k : ℕ). tabulate (length cells) (neighbour_sum cells k)) c.reach-k.ensures) c.requires.step.room_work c.add.ensures

@@ -1,10 +1,10 @@
 -- What the loops of `slope_loops::loops::finish` keep. Assumes nothing.
 use mathlib.Core.List.{map}
 use Rattle.numbers.proofs.Writes.{Upto}
-use Rattle.slope_loops.specs.Loops.{taken}
+use Rattle.slope_loops.specs.Loops.{slopes_added}
 use Rattle.slope_loops.proofs.loops.finish.Given as goal
 
 abbrev pub invariant-loop-j : goal.invariant-loop-j
 invariant-loop-j g l =
     let S = g.S.Slope in
-    Upto (taken (map S.sum l.rising) (map S.sum l.falling) l.p l.q l.initial.work) l.initial.work l.work l.j × Upto (taken (map S.sum l.rising) (map S.sum l.falling) l.p l.q l.initial.work) l.initial.out l.out l.j
+    Upto (slopes_added (map S.sum l.rising) (map S.sum l.falling) l.p l.q l.initial.work) l.initial.work l.work l.j × Upto (slopes_added (map S.sum l.rising) (map S.sum l.falling) l.p l.q l.initial.work) l.initial.out l.out l.j

@@ -3,11 +3,11 @@ use mathlib.Core.Path.{◌∙◌, ap₂}
 use Prim.Native.Nat.{◌+◌}
 use native.Mathlib.Omega.{arith}
 use lib.IntN.{◌+ℤ◌, ◌-ℤ◌}
-use Rattle.slope_loops.proofs.Numbers.{read, next_read, next_moved}
+use Rattle.slope_loops.proofs.Numbers.{read, next_read, next_replaced}
 use Rattle.slope_loops.proofs.loops.gather.Goals as goal
 
-pub gain-requires : goal.gain-requires
-gain-requires g c =
+pub enter_and_leave-requires : goal.enter_and_leave-requires
+enter_and_leave-requires g c =
     let l = c.loop-x in
     let V = g.S.Value.PlaneValue in
     let inside = c.loop-x-test.true in (
@@ -23,4 +23,4 @@ loop-x-preserved g c =
     let sum = next_read g.S.Slope.sum c.args.sums.now l.sums l.invariant c.index-sums-x.result (omega arith) in
     let enters = read V.value c.args.a.now (l.x + c.args.places.enters) c.index-a-x.result (omega arith) in
     let leaves = read V.value c.args.b.now (l.x + c.args.places.leaves) c.index-b-x.result (omega arith) in
-    next_moved g.S.Slope.sum c.args.sums.now l.sums l.invariant _ (omega arith) (c.gain.ensures ∙ ap₂ ◌+ℤ◌ sum (ap₂ ◌-ℤ◌ enters leaves))
+    next_replaced g.S.Slope.sum c.args.sums.now l.sums l.invariant _ (omega arith) (c.enter_and_leave.ensures ∙ ap₂ ◌+ℤ◌ sum (ap₂ ◌-ℤ◌ enters leaves))

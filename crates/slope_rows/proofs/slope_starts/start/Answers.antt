@@ -5,7 +5,7 @@ use Rattle.spec_picture.specs.Picture.{plane_at}
 use Rattle.spec_picture.specs.Checked.{checked_source}
 use Rattle.spec_picture.proofs.Planes.{plane-beside}
 use Rattle.slope_rows.proofs.Kept.{blank_of, slopes-cell}
-use Rattle.slope_rows.proofs.Asks.{row-limits, rises-gather, falls-gather}
+use Rattle.slope_rows.proofs.Required.{row-limits, rises-gather, falls-gather}
 use Rattle.slope_rows.proofs.slope_starts.start.Goals as goal
 
 pub gather-requires : goal.gather-requires

@@ -13,9 +13,9 @@ use Rattle.spec_statistics.specs.SixSums.{on_plane, six_sums}
 use Rattle.spec_statistics.specs.Moments.{mean}
 use Rattle.spec_smoothing.specs.Smoothing.{smoothed}
 use Rattle.row_session.specs.Blocks.{RowSums}
-use Rattle.row_session.proofs.BlockSums.{block-fits, block_sums, ready-behind}
+use Rattle.row_session.proofs.BlockSums.{block-fits, block_sums, ready-after}
 use Rattle.smoothing.proofs.BlockLines.{put-lines, lent-length}
-use Rattle.smoothing.proofs.BlockMeans.{block-end, block-asked, block-mean}
+use Rattle.smoothing.proofs.BlockMeans.{block-end, block-required, block-mean}
 use Rattle.smoothing.proofs.mean_rows.every_row.Goals.{After-high}
 use Rattle.smoothing.proofs.mean_rows.every_row.Goals as goal
 
@@ -45,11 +45,11 @@ module _ (c : After-high) where
   fits : m * x.source.frame.columns ≤ 16384
   fits = block-fits x (checked c.args.inputs.now) m (omega (arith, c.high.ensures))
 
-  counted : RowSums (on_plane x 0) i m c.next.new.block
-  counted = block_sums (on_plane x 0) _ c.on_plane-ones.ensures i m (rw c.high.ensures) c.next.ensures
+  counted : RowSums (on_plane x 0) i m c.next_block.new.block
+  counted = block_sums (on_plane x 0) _ c.on_plane-ones.ensures i m (rw c.high.ensures) c.next_block.ensures
 
-  summed : RowSums (on_plane x 1) i m c.next-in-loop-block.new.block
-  summed = block_sums (on_plane x 1) _ c.on_plane-levels.ensures i m (rw c.high.ensures) c.next-in-loop-block.ensures
+  summed : RowSums (on_plane x 1) i m c.next_block-in-loop-block.new.block
+  summed = block_sums (on_plane x 1) _ c.on_plane-levels.ensures i m (rw c.high.ensures) c.next_block-in-loop-block.ensures
 
   room : length (take (end - start) (drop start c.loop-block.out)) ≡ m * x.source.frame.columns
   room = lent-length start (m * x.source.frame.columns) c.loop-block.out ends
@@ -61,7 +61,7 @@ pub row_means-requires : goal.row_means-requires
 row_means-requires c =
     let b = (goal.at.row_means-requires c).After-high in
     let few = fits b in
-    block-asked (x b) (checked c.args.inputs.now) c.requires.alone (i b) (m b) (within b) _ _ _ (counted b) (summed b) (room b) (omega arith) (omega arith)
+    block-required (x b) (checked c.args.inputs.now) c.requires.alone (i b) (m b) (within b) _ _ _ (counted b) (summed b) (room b) (omega arith) (omega arith)
 
 pub loop-block-preserved : goal.loop-block-preserved
 loop-block-preserved c =
@@ -78,8 +78,8 @@ loop-block-preserved c =
     record {
       written = subst (Lines f z.columns _) below (put-lines f z.columns (i b) (m b) (start b) (end b) l.out part (rw above at l.invariant.written) refl refl (ends b) written rows);
       full = part_length (start b) (end b) l.out part (omega arith) (ends b) (written ∙ span) ∙ l.invariant.full;
-      counts = ready-behind c.next.ensures _ (omega arith);
-      totals = ready-behind c.next-in-loop-block.ensures _ (omega arith);
+      counts = ready-after c.next_block.ensures _ (omega arith);
+      totals = ready-after c.next_block-in-loop-block.ensures _ (omega arith);
     }
 
 pub returns : goal.returns

@@ -9,16 +9,16 @@ returns-in_default c = empty-answer c.args.z (rw c.in_default.is at c.in_ok-m.en
 pub returns-then-m-eq0 : goal.returns-then-m-eq0
 returns-then-m-eq0 c = flat-answer c.args.z _ (rw c.in-Some.is at c.in_ok-m.ensures) c.then-m-eq0.either
 
-pub wide_root-largest-requires : goal.wide_root-largest-requires
-wide_root-largest-requires c =
+pub long_root-largest-requires : goal.long_root-largest-requires
+long_root-largest-requires c =
     correlated c.args.z _ (rw c.in-Some.is at c.in_ok-m.ensures) c.if-m-eq0.false c.if-m-eq0-2.false _ c.multiply-2.ensures _ _ _ (search rules) c.magnitude-size.ensures c.multiply.ensures c.scale.ensures
 
 pub overflow_mul-result : goal.overflow_mul-result
 overflow_mul-result c =
     product-fits c.args.z _ (rw c.in-Some.is at c.in_ok-m.ensures) c.if-m-eq0.false c.if-m-eq0-2.false _ c.multiply-2.ensures _ _ _ (search rules) c.magnitude-size.ensures c.multiply.ensures c.scale.ensures
-    _ c.wide_root-largest.ensures _ c.from.ensures _ (search rules) c.signum.ensures.value
+    _ c.long_root-largest.ensures _ c.from.ensures _ (search rules) c.signum.ensures.value
 
 pub returns : goal.returns
 returns c =
     value-answer c.args.z _ (rw c.in-Some.is at c.in_ok-m.ensures) c.if-m-eq0.false c.if-m-eq0-2.false _ c.multiply-2.ensures _ _ _ (search rules) c.magnitude-size.ensures c.multiply.ensures c.scale.ensures
-    _ c.wide_root-largest.ensures _ c.from.ensures _ (search rules) c.signum.ensures.value
+    _ c.long_root-largest.ensures _ c.from.ensures _ (search rules) c.signum.ensures.value

@@ -6,14 +6,14 @@ use mir.Val.{SFits, to_z, of_z}
 use mir.Facts.{to_z-of_z}
 use Rattle.numbers.specs.Round.{nearest}
 use Rattle.spec_statistics.specs.Moments.{mean, mean_call}
-use Rattle.spec_statistics.proofs.Inner.{mean-asked, mean-is}
+use Rattle.spec_statistics.proofs.Inner.{mean-required, mean-is}
 use Rattle.statistics.proofs.Mapped.{mapped}
 use Rattle.statistics.proofs.moments.mean.Goals as goal
 
 pub map-requires : goal.map-requires
 map-requires c m is =
     let e = rw is at c.in_ok-central_moments.ensures in
-    λ p q r s u. mean-asked c.args.z m e (record { sfits = s })
+    λ p q r s u. mean-required c.args.z m e (record { sfits = s })
 
 pub returns : goal.returns
 unfolding mean_call

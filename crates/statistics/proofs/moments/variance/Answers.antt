@@ -8,7 +8,7 @@ use mir.Val.{SFits, to_z}
 use mir.Facts.{to_z-of_z}
 use Rattle.numbers.specs.Round.{nearest}
 use Rattle.spec_statistics.specs.Moments.{variance, variance_call}
-use Rattle.spec_statistics.proofs.Inner.{square-small, spread-small, variance-asked, variance-is}
+use Rattle.spec_statistics.proofs.Inner.{square-small, spread-small, variance-required, variance-is}
 use Rattle.statistics.proofs.Mapped.{mapped}
 use Rattle.statistics.proofs.moments.variance.Goals as goal
 
@@ -17,7 +17,7 @@ map-requires c m is =
     let e = rw is at c.in_ok-central_moments.ensures in (
       λ p q. record { sfits = omega (arith, spread-small c.args.z m e) },
       λ p q r. record { fits = omega (arith, square-small c.args.z m e) },
-      λ p q r s. variance-asked c.args.z m e,
+      λ p q r s. variance-required c.args.z m e,
     )
 
 pub returns : goal.returns

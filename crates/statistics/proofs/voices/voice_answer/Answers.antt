@@ -14,24 +14,24 @@ use Rattle.spec_statistics.specs.Moments.{mean, deviation}
 use Rattle.spec_statistics.specs.Central.{central_call}
 use Rattle.spec_statistics.specs.Voice.{over32768, steady, grainy, voice, voice_call}
 use Rattle.spec_statistics.proofs.Bounds.{answers}
-use Rattle.spec_statistics.proofs.Inner.{taken, vf-is, mean-asked, mean-is, mean-small, square-small, ratio, root-small, deviation-is, deviation-small}
+use Rattle.spec_statistics.proofs.Inner.{moments-given, vf-is, mean-required, mean-is, mean-small, square-small, ratio, root-small, deviation-is, deviation-small}
 use Rattle.statistics.proofs.voices.voice_answer.Goals as goal
 
 module _ (z : Sums) (m : CentralMoments) (e : answered (some m) ≡ central_call z) (level : Float) (level-is : level ≡ over32768 (mean z)) where
   steady-answer : m.vf ≡ 0 → answered (steady level) ≡ voice_call z
   unfolding voice_call voice
   steady-answer h =
-      let t = taken z m e in
+      let t = moments-given z m e in
       rw (answers z (voice z) t.possible, ne_eqb (count z) 0 t.some_cell, eq-eqb (nat_abs (Vf z)) 0 (sym (vf-is z m e) ∙ h), level-is, voice)
 
   grainy-answer : (m.vf ≡ 0 → ⊥) → (spread : Float) → spread ≡ over32768 (pos (deviation z)) → answered (grainy level spread) ≡ voice_call z
   unfolding voice_call voice
   grainy-answer h spread spread-is =
-      let t = taken z m e in
+      let t = moments-given z m e in
       rw (answers z (voice z) t.possible, ne_eqb (count z) 0 t.some_cell, ne_eqb (nat_abs (Vf z)) 0 (λ k. h (vf-is z m e ∙ k)), level-is, spread-is, voice)
 
 pub nearest-requires : goal.nearest-requires
-nearest-requires c = mean-asked c.args.z _ (rw c.in-Some.is at c.in_ok-m.ensures) (search rules)
+nearest-requires c = mean-required c.args.z _ (rw c.in-Some.is at c.in_ok-m.ensures) (search rules)
 
 pub over_32768-level-requires : goal.over_32768-level-requires
 over_32768-level-requires c = mean-small c.args.z _ (rw c.in-Some.is at c.in_ok-m.ensures) (search rules) _ (search rules) c.nearest.ensures

@@ -30,8 +30,8 @@ loop-m-init g c =
       holds-begin (padded (plane_in x)) _ c.args.rows.row _ c.requires.leaving,
     )
 
-pub row-requires : goal.row-requires
-row-requires g c =
+pub next_row-requires : goal.next_row-requires
+next_row-requires g c =
     let x = c.args.slanted.now in
     let l = c.loop-m in
     let z = c.args.slanted.now.inputs.source.frame in
@@ -64,8 +64,8 @@ loop-m-preserved g c =
     let z = c.args.slanted.now.inputs.source.frame in
     let begin = l.m * z.columns in
     let ends : begin + z.columns ≤ length l.out = omega (arith, l.invariant.1, c.requires.many.room, line-end l.m c.args.rows.count z.columns c.loop-m-test.true) in
-    let r = c.row.ensures.row in
-    let leaves = c.row.ensures.leaving in
+    let r = c.next_row.ensures.row in
+    let leaves = c.next_row.ensures.leaving in
     let next : ABOVE + (c.args.rows.row + l.m) + 1 ≡ ABOVE + (c.args.rows.row + (l.m + 1)) = omega arith in (
       omega (arith, c.loop-m-test.true),
       omega arith,

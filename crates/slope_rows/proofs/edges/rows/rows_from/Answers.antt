@@ -11,7 +11,7 @@ use Rattle.spec_picture.proofs.Planes.{plane-beside}
 use Rattle.slope_loops.specs.Slopes.{padded}
 use Rattle.slope_rows.specs.Edges.{plane_in}
 use Rattle.slope_rows.proofs.Kept.{blank_of}
-use Rattle.slope_rows.proofs.Across.{behind-fits, rows-done}
+use Rattle.slope_rows.proofs.BySlopes.{rest-fits, rows-done}
 use Rattle.slope_rows.proofs.Zeros.{blank, no-slopes}
 use Rattle.slope_loops.specs.declared.padding.TheConstants.{ABOVE, ROW_LENGTH}
 use Rattle.slope_rows.proofs.edges.rows.rows_from.Goals as goal
@@ -55,7 +55,7 @@ after-requires g c =
     let columns = c.args.slanted.now.inputs.source.frame.columns in
     let end = length top.new.out in
     let kept = top.auto.out in
-    let f = behind-fits _ _ _ _ _ top.ensures.begins top.ensures.none c.requires.room_fresh c.requires.room_behind in (
+    let f = rest-fits _ _ _ _ _ top.ensures.begins top.ensures.none c.requires.room_fresh c.requires.room_after in (
       g.met.S.Value.PlaneValue.row_fits,
       (
         g.met.S.Slope.slopes_fit,
@@ -79,7 +79,7 @@ returns g c =
     let top = c.top_row-begin in
     let rest = c.after in
     let end = length top.new.out in
-    let f = behind-fits _ _ _ _ _ top.ensures.begins top.ensures.none c.requires.room_fresh c.requires.room_behind in
+    let f = rest-fits _ _ _ _ _ top.ensures.begins top.ensures.none c.requires.room_fresh c.requires.room_after in
     let kept = top.auto.out in
     rows-done x c.args.fresh c.args.i c.args.n top.result end c.args.work.now _ top.new.out rest.new.work rest.new.out c.args.slanted.now.fits.slanted c.requires.at_0 top.ensures (omega (arith, kept, f.0)) refl
     (rest.auto.out ∙ slice-length top.result end top.new.out (omega (arith, kept, f.0)) (omega arith)) rest.ensures
