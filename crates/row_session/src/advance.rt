@@ -64,7 +64,7 @@ pub fn next_rows(
 {
     if let Some(slanted) = kept_slopes::slanted(inputs) {
         if choose_method::top_by_slopes(position, inputs.window, inputs.source.plane, n) {
-            edges::fresh(&slanted, n, work, out);
+            edges::top_rows_by_slopes(&slanted, n, work, out);
             return;
         }
         if choose_method::by_slopes(inputs.window, n) {

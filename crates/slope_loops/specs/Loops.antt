@@ -20,7 +20,7 @@ pub record Holds (buf : List ℤ) (F : ℕ → ℤ) : Type 0 where
   pub each : (x : ℕ) → get_or buf x (pos 0) ≡ F x
 
 -- n numbers from place p on are at most m in size
-pub record Within (m : ℕ) (l : List ℤ) (p n : ℕ) : Type 0 where
+pub record AtMost (m : ℕ) (l : List ℤ) (p n : ℕ) : Type 0 where
   pub each : (x : ℕ) → x < n → mag (get_or l (x + p) (pos 0)) ≤ m
 
 -- n numbers from place s on have become those of F; the others are as they were
@@ -55,7 +55,7 @@ pub record GatherRequires (m : ℕ) (a b : List ℤ) (n : ℕ) (places : GatherP
   pub room : n + places.sums ≤ ROW_LENGTH
   pub room_a : n + places.enters ≤ ROW_LENGTH
   pub room_b : n + places.leaves ≤ ROW_LENGTH
-  pub within : Within m sums places.sums n
+  pub within : AtMost m sums places.sums n
 
 -- n places within three rows and the sums, and sums of at most m
 pub record SlideRequires (m : ℕ) (a b c : List ℤ) (n : ℕ) (places : SlidePlaces) (sums : List ℤ) : Type 0 where
@@ -68,7 +68,7 @@ pub record SlideRequires (m : ℕ) (a b c : List ℤ) (n : ℕ) (places : SlideP
   pub room_lower_gone : n + places.lower_gone ≤ ROW_LENGTH
   pub room_upper_new : n + places.upper_new ≤ ROW_LENGTH
   pub room_upper_gone : n + places.upper_gone ≤ ROW_LENGTH
-  pub within : Within m sums places.sums n
+  pub within : AtMost m sums places.sums n
 
 -- slopes of at most m for every place of the work row
 pub record FinishRequires (m : ℕ) (rising falling : List ℤ) (p q : ℕ) (work out : List ℤ) : Type 0 where
@@ -77,8 +77,8 @@ pub record FinishRequires (m : ℕ) (rising falling : List ℤ) (p q : ℕ) (wor
   pub length_out : length out ≡ length work
   pub room_rising : length work + p ≤ ROW_LENGTH
   pub room_falling : length work + q ≤ ROW_LENGTH
-  pub within_rising : Within m rising p (length work)
-  pub within_falling : Within m falling q (length work)
+  pub within_rising : AtMost m rising p (length work)
+  pub within_falling : AtMost m falling q (length work)
 
 -- the same, and two rows
 pub record TipsRequires (m : ℕ) (a c rising falling : List ℤ) (p q : ℕ) (work out : List ℤ) : Type 0 where

@@ -6,7 +6,7 @@ ghost use Rattle.std.specs.Int.Signed.{mag};
 ghost use Rattle.std.specs.Mem.{type_size};
 ghost use Rattle.std.proofs.Common.{arith};
 ghost use Rattle.numbers.specs.Grid.{tabulate};
-ghost use Rattle.slope_loops.specs.Loops.{Within, Replaced, gathered, slid, slopes_added, tips_added, GatherRequires, SlideRequires, FinishRequires, TipsRequires};
+ghost use Rattle.slope_loops.specs.Loops.{AtMost, Replaced, gathered, slid, slopes_added, tips_added, GatherRequires, SlideRequires, FinishRequires, TipsRequires};
 ghost use Rattle.slope_loops.specs.declared.padding.TheConstants.{ROW_LENGTH};
 
 use crate::padding::{MARGIN, PlaneValue, ROW_LENGTH};
@@ -152,7 +152,7 @@ pub fn gather<S: Slope>(
     places: GatherPlaces,
     sums: &mut [S; ROW_LENGTH],
 )
-    requires { GatherRequires S.sum_max (map S.Value.value a.now) (map S.Value.value b.now) n places (map S.sum sums.old) × Within S.Value.value_max (map S.Value.value a.now) places.enters n × Within S.Value.value_max (map S.Value.value b.now) places.leaves n }
+    requires { GatherRequires S.sum_max (map S.Value.value a.now) (map S.Value.value b.now) n places (map S.sum sums.old) × AtMost S.Value.value_max (map S.Value.value a.now) places.enters n × AtMost S.Value.value_max (map S.Value.value b.now) places.leaves n }
     ensures { Replaced (gathered (map S.Value.value a.now) (map S.Value.value b.now) places (map S.sum sums.old)) (map S.sum sums.old) (map S.sum sums.new) places.sums n }
 {
     for x in 0..n {
@@ -172,7 +172,7 @@ pub fn slide<S: Slope>(
     places: SlidePlaces,
     sums: &mut [S; ROW_LENGTH],
 )
-    requires { SlideRequires S.sum_max (map S.Value.value a.now) (map S.Value.value b.now) (map S.Value.value c.now) n places (map S.sum sums.old) × Within S.Value.value_max (map S.Value.value a.now) places.lower_new n × Within S.Value.value_max (map S.Value.value b.now) places.lower_gone n × Within S.Value.value_max (map S.Value.value b.now) places.upper_new n × Within S.Value.value_max (map S.Value.value c.now) places.upper_gone n }
+    requires { SlideRequires S.sum_max (map S.Value.value a.now) (map S.Value.value b.now) (map S.Value.value c.now) n places (map S.sum sums.old) × AtMost S.Value.value_max (map S.Value.value a.now) places.lower_new n × AtMost S.Value.value_max (map S.Value.value b.now) places.lower_gone n × AtMost S.Value.value_max (map S.Value.value b.now) places.upper_new n × AtMost S.Value.value_max (map S.Value.value c.now) places.upper_gone n }
     ensures { Replaced (slid (map S.Value.value a.now) (map S.Value.value b.now) (map S.Value.value c.now) places (map S.sum sums.old)) (map S.sum sums.old) (map S.sum sums.new) places.sums n }
 {
     for x in 0..n {
@@ -212,7 +212,7 @@ pub fn finish_tips<S: Slope>(
     work: &mut [i64],
     out: &mut [i64],
 )
-    requires { TipsRequires S.sum_max (map S.Value.value a.now) (map S.Value.value c.now) (map S.sum rising.now) (map S.sum falling.now) p q work.old out.old × Within S.Value.value_max (map S.Value.value a.now) MARGIN (length work.old) × Within S.Value.value_max (map S.Value.value c.now) MARGIN (length work.old) }
+    requires { TipsRequires S.sum_max (map S.Value.value a.now) (map S.Value.value c.now) (map S.sum rising.now) (map S.sum falling.now) p q work.old out.old × AtMost S.Value.value_max (map S.Value.value a.now) MARGIN (length work.old) × AtMost S.Value.value_max (map S.Value.value c.now) MARGIN (length work.old) }
     ensures { (work.new ≡ tabulate (length work.old) (tips_added (map S.Value.value a.now) (map S.Value.value c.now) (map S.sum rising.now) (map S.sum falling.now) p q work.old)) × (out.new ≡ tabulate (length work.old) (tips_added (map S.Value.value a.now) (map S.Value.value c.now) (map S.sum rising.now) (map S.sum falling.now) p q work.old)) }
 {
     for j in 0..work.len() {

@@ -24,7 +24,7 @@ use Rattle.slope_loops.specs.Slopes.{padded, edge_slopes, on_right, on_left, ris
 use Rattle.slope_loops.proofs.LoopLaws.{replaced-all}
 use Rattle.slope_loops.proofs.Moves.{padded-left, padded-right, slope_none, slope-more, slope_bound, rising_step, falling-step, rising-right, falling-left}
 use Rattle.slope_loops.proofs.Parts.{tips}
-use Rattle.slope_loops.specs.Loops.{Blank, Holds, Within, Replaced, gathered, slid, slopes_added, tips_added}
+use Rattle.slope_loops.specs.Loops.{Blank, Holds, AtMost, Replaced, gathered, slid, slopes_added, tips_added}
 use Rattle.slope_rows.specs.Edges.{Slopes}
 use Rattle.slope_rows.specs.Places.{RisingCells, FallingCells, RisingPlaces, FallingPlaces}
 use Rattle.std.proofs.lemmas.List.{get_or_past}
@@ -53,17 +53,17 @@ mag-size (pos n) = omega arith
 mag-size (negsuc n) = omega arith
 
 module _ (Q : ℕ → ℕ → ℤ) (B : ℕ) (small : (y x : ℕ) → nat_abs (Q y x) ≤ B) where
-  pub within-row : (a : List ℤ) (y M p n : ℕ) → B ≤ M → Holds a (Q y) → Within M a p n
+  pub within-row : (a : List ℤ) (y M p n : ℕ) → B ≤ M → Holds a (Q y) → AtMost M a p n
   within-row a y M p n l u = record { each = λ x x<. rw (u.each (x + p)) (omega (arith, mag-size (Q y (x + p)), small y (x + p))) }
 
   module _ (columns w n y m : ℕ) (rises falls : List ℤ) (l : Slopes Q columns w n y m rises falls) (M p count : ℕ) (large : n * (2 * B) ≤ M) where
     within_slope : (lower upper : ℕ → ℕ) (v : ℤ) → v ≡ edge_slopes Q lower upper n y → mag v ≤ M
     within_slope lower upper v e = rw e (omega (arith, mag-size (edge_slopes Q lower upper n y), slope_bound Q lower upper B small n y))
 
-    pub within-rises : RISING_START + m ≤ p → Within M rises p count
+    pub within-rises : RISING_START + m ≤ p → AtMost M rises p count
     within-rises h = record { each = λ x x<. within_slope _ _ _ (l.rising_at (x + p) (omega arith)) }
 
-    pub within-falls : p + count + m ≤ FALLING_START + columns → Within M falls p count
+    pub within-falls : p + count + m ≤ FALLING_START + columns → AtMost M falls p count
     within-falls h = record { each = λ x x<. within_slope _ _ _ (l.falling_at (x + p) (omega arith)) }
 
 -- ---- what the loops make of the slopes of a column, whichever way they go

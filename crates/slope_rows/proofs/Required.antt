@@ -15,7 +15,7 @@ use Rattle.spec_picture.proofs.Found.{limits}
 use Rattle.slope_loops.specs.declared.loops.GatherPlaces.{GatherPlaces}
 use Rattle.slope_loops.specs.declared.loops.SlidePlaces.{SlidePlaces}
 use Rattle.slope_loops.specs.Slopes.{padded}
-use Rattle.slope_loops.specs.Loops.{Holds, Within, GatherRequires, SlideRequires, FinishRequires, TipsRequires}
+use Rattle.slope_loops.specs.Loops.{Holds, AtMost, GatherRequires, SlideRequires, FinishRequires, TipsRequires}
 use Rattle.slope_loops.proofs.Moves.{padded-bound}
 use Rattle.slope_rows.specs.Requires.{FlatEdgeRequires}
 use Rattle.slope_rows.specs.declared.kept_slopes.SlantedInputs.{SlantedInputs}
@@ -61,7 +61,7 @@ module _ (slanted : SlantedInputs) (i : ℕ) (below : i < slanted.inputs.source.
     small : (y x : ℕ) → nat_abs (Q y x) ≤ B
     small = padded-bound P B (bound (checked_source given) plane given.levels_f given.levels_g)
 
-    row-within : {row : List ℤ} (y p n : ℕ) → Holds row (Q y) → Within B row p n
+    row-within : {row : List ℤ} (y p n : ℕ) → Holds row (Q y) → AtMost B row p n
     row-within y p n u = within-row Q B small _ y B p n (omega arith) u
 
     -- slopes of n cells
@@ -71,29 +71,29 @@ module _ (slanted : SlantedInputs) (i : ℕ) (below : i < slanted.inputs.source.
           let most : n ≤ 127 = omega (arith, row-limits) in
           omega (arith, mul-le-mul_right (2 * B) most, room)
 
-      rises-within : (p count : ℕ) → RISING_START + m ≤ p → Within M rises p count
+      rises-within : (p count : ℕ) → RISING_START + m ≤ p → AtMost M rises p count
       rises-within p count = within-rises Q B small columns w n y m rises falls l M p count bounded
 
-      falls-within : (p count : ℕ) → p + count + m ≤ FALLING_START + columns → Within M falls p count
+      falls-within : (p count : ℕ) → p + count + m ≤ FALLING_START + columns → AtMost M falls p count
       falls-within p count = within-falls Q B small columns w n y m rises falls l M p count bounded
 
     -- what a further cell of each slope requires
     module _ {t : ℕ} {a b rises falls : List ℤ} (inside : t < h) (l : Slopes Q columns w t (ABOVE + i) 0 rises falls)
         (lower : Holds a (Q (ABOVE + i + 1 + t))) (upper : Holds b (Q (ABOVE + i - t))) where
-      gather-required : (places : GatherPlaces) {sums : List ℤ} → length sums ≡ ROW_LENGTH → columns + w + places.sums ≤ ROW_LENGTH → columns + w + places.enters ≤ ROW_LENGTH → columns + w + places.leaves ≤ ROW_LENGTH → Within M sums places.sums (columns + w) →
-          GatherRequires M a b (columns + w) places sums × Within B a places.enters (columns + w) × Within B b places.leaves (columns + w)
+      gather-required : (places : GatherPlaces) {sums : List ℤ} → length sums ≡ ROW_LENGTH → columns + w + places.sums ≤ ROW_LENGTH → columns + w + places.enters ≤ ROW_LENGTH → columns + w + places.leaves ≤ ROW_LENGTH → AtMost M sums places.sums (columns + w) →
+          GatherRequires M a b (columns + w) places sums × AtMost B a places.enters (columns + w) × AtMost B b places.leaves (columns + w)
       gather-required places length_sums room room_a room_b within = (
         record { length_a = lower.size; length_b = upper.size; length_sums = length_sums; room = room; room_a = room_a; room_b = room_b; within = within },
         row-within (ABOVE + i + 1 + t) _ _ lower,
         row-within (ABOVE + i - t) _ _ upper,
       )
 
-      pub rises-gather : (places : GatherPlaces) → RisingCells MARGIN (w - t) places → GatherRequires M a b (columns + w) places rises × Within B a places.enters (columns + w) × Within B b places.leaves (columns + w)
+      pub rises-gather : (places : GatherPlaces) → RisingCells MARGIN (w - t) places → GatherRequires M a b (columns + w) places rises × AtMost B a places.enters (columns + w) × AtMost B b places.leaves (columns + w)
       rises-gather places r =
           gather-required places l.length_rises (omega (arith, row-limits, r.sums)) (omega (arith, row-limits, r.enters)) (omega (arith, row-limits, r.leaves))
           (rises-within t (ABOVE + i) 0 (omega arith) l places.sums (columns + w) (omega (arith, r.sums)))
 
-      pub falls-gather : (places : GatherPlaces) → FallingCells (MARGIN - w) (w - t) places → GatherRequires M a b (columns + w) places falls × Within B a places.enters (columns + w) × Within B b places.leaves (columns + w)
+      pub falls-gather : (places : GatherPlaces) → FallingCells (MARGIN - w) (w - t) places → GatherRequires M a b (columns + w) places falls × AtMost B a places.enters (columns + w) × AtMost B b places.leaves (columns + w)
       falls-gather places r =
           gather-required places l.length_falls (omega (arith, row-limits, r.sums)) (omega (arith, row-limits, r.enters)) (omega (arith, row-limits, r.leaves))
           (falls-within t (ABOVE + i) 0 (omega arith) l places.sums (columns + w) (omega (arith, row-limits, r.sums)))
@@ -103,9 +103,9 @@ module _ (slanted : SlantedInputs) (i : ℕ) (below : i < slanted.inputs.source.
       -- what the slopes of the next row require
       module _ {a b c : List ℤ} (lower : Holds a (Q (ABOVE + i + 1 + h))) (middle : Holds b (Q (ABOVE + i + 1))) (upper : Holds c (Q (ABOVE + i + 1 - h))) where
         slide-required : (places : SlidePlaces) {sums : List ℤ} → length sums ≡ ROW_LENGTH → columns + w + places.sums ≤ ROW_LENGTH → columns + w + places.lower_new ≤ ROW_LENGTH → columns + w + places.lower_gone ≤ ROW_LENGTH →
-            columns + w + places.upper_new ≤ ROW_LENGTH → columns + w + places.upper_gone ≤ ROW_LENGTH → Within M sums places.sums (columns + w) →
+            columns + w + places.upper_new ≤ ROW_LENGTH → columns + w + places.upper_gone ≤ ROW_LENGTH → AtMost M sums places.sums (columns + w) →
             SlideRequires M a b c (columns + w) places sums
-            × Within B a places.lower_new (columns + w) × Within B b places.lower_gone (columns + w) × Within B b places.upper_new (columns + w) × Within B c places.upper_gone (columns + w)
+            × AtMost B a places.lower_new (columns + w) × AtMost B b places.lower_gone (columns + w) × AtMost B b places.upper_new (columns + w) × AtMost B c places.upper_gone (columns + w)
         slide-required places length_sums room lower_new lower_gone upper_new upper_gone within = (
           record {
             length_a = lower.size;
@@ -126,13 +126,13 @@ module _ (slanted : SlantedInputs) (i : ℕ) (below : i < slanted.inputs.source.
         )
 
         pub rises-slide : (places : SlidePlaces) → RisingPlaces MARGIN (m + 1) w (w - h) places → SlideRequires M a b c (columns + w) places rises
-            × Within B a places.lower_new (columns + w) × Within B b places.lower_gone (columns + w) × Within B b places.upper_new (columns + w) × Within B c places.upper_gone (columns + w)
+            × AtMost B a places.lower_new (columns + w) × AtMost B b places.lower_gone (columns + w) × AtMost B b places.upper_new (columns + w) × AtMost B c places.upper_gone (columns + w)
         rises-slide places r =
             slide-required places l.length_rises (omega (arith, row-limits, r.sums)) (omega (arith, row-limits, r.lower_new)) (omega (arith, row-limits, r.lower_gone)) (omega (arith, row-limits, r.upper_new)) (omega (arith, row-limits, r.upper_gone))
             (rises-within h (ABOVE + i) m (omega arith) l places.sums (columns + w) (omega (arith, r.sums)))
 
         pub falls-slide : (places : SlidePlaces) → FallingPlaces (MARGIN - w) (m + 1) w (w - h) places → SlideRequires M a b c (columns + w) places falls
-            × Within B a places.lower_new (columns + w) × Within B b places.lower_gone (columns + w) × Within B b places.upper_new (columns + w) × Within B c places.upper_gone (columns + w)
+            × AtMost B a places.lower_new (columns + w) × AtMost B b places.lower_gone (columns + w) × AtMost B b places.upper_new (columns + w) × AtMost B c places.upper_gone (columns + w)
         falls-slide places r =
             slide-required places l.length_falls (omega (arith, row-limits, r.sums)) (omega (arith, row-limits, r.lower_new)) (omega (arith, row-limits, r.lower_gone)) (omega (arith, row-limits, r.upper_new)) (omega (arith, row-limits, r.upper_gone))
             (falls-within h (ABOVE + i) m (omega arith) l places.sums (columns + w) (omega (arith, row-limits, r.sums)))
@@ -151,7 +151,7 @@ module _ (slanted : SlantedInputs) (i : ℕ) (below : i < slanted.inputs.source.
         }
 
         pub tips-required : {a c : List ℤ} → Holds a (Q (ABOVE + i + 1 + h)) → Holds c (Q (ABOVE + i - h)) →
-            TipsRequires M a c rises falls (RISING_START + m) (FALLING_START - m) work out × Within B a MARGIN (length work) × Within B c MARGIN (length work)
+            TipsRequires M a c rises falls (RISING_START + m) (FALLING_START - m) work out × AtMost B a MARGIN (length work) × AtMost B c MARGIN (length work)
         tips-required entering leaving = (
           record { slopes = finish-required; length_a = entering.size; length_c = leaving.size; room = omega (arith, lw, row-limits) },
           row-within (ABOVE + i + 1 + h) _ _ entering,

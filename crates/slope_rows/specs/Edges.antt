@@ -61,7 +61,7 @@ pub record FirstRowRequires (rises falls work out : List ℤ) : Type 0 where
   pub room : length out ≡ length work
 
 -- a row of a call, with its slopes, a work area, and an output area for a row
-pub record RowRequires (x : SlantedInputs) (here : CallRow) (a b c rises falls work out : List ℤ) : Type 0 where
+pub record SlopeRowRequires (x : SlantedInputs) (here : CallRow) (a b c rises falls work out : List ℤ) : Type 0 where
   pub inside : here.row < x.inputs.source.frame.rows
   pub turn : here.moved ≤ 254
   pub rows : Rows x.inputs.source.frame.columns a b c
@@ -93,7 +93,7 @@ pub record AddEdgesRequires (x : SlantedInputs) (here : CallRow) (a c rises fall
 -- of a plane whose values the rows hold
 pub record LeavingRequires (holds : ℕ → Type 0) (x : SlantedInputs) (here : CallRow) (a b c rises falls work out : List ℤ) : Type 0 where
   pub plane : holds (plane_number x.inputs.source.plane)
-  pub row : RowRequires x here a b c rises falls work out
+  pub row : SlopeRowRequires x here a b c rises falls work out
   pub leaving : Holds c (padded (plane_in x) (ABOVE + here.row - x.height))
 
 pub record LeavingDone (x : SlantedInputs) (here : CallRow) (before a b c rises falls work out : List ℤ) : Type 0 where
@@ -101,7 +101,7 @@ pub record LeavingDone (x : SlantedInputs) (here : CallRow) (before a b c rises 
   pub leaving : Holds c (padded (plane_in x) (ABOVE + here.row + 1 - x.height))
 
 -- rows of the picture after row i, a work area, and an output area for those rows
-pub record RowsRequires (x : SlantedInputs) (i n : ℕ) (work out : List ℤ) : Type 0 where
+pub record SlopeRowsRequires (x : SlantedInputs) (i n : ℕ) (work out : List ℤ) : Type 0 where
   pub rows : i + n < x.inputs.source.frame.rows
   pub room_work : length work ≡ x.inputs.source.frame.columns
   pub room : length out ≡ n * x.inputs.source.frame.columns
@@ -110,7 +110,7 @@ pub record RowsRequires (x : SlantedInputs) (i n : ℕ) (work out : List ℤ) : 
 -- the same with the slopes of the row before them, and the row that leaves in the middle
 pub record AfterRequires (holds : ℕ → Type 0) (x : SlantedInputs) (rows_after : RowsAfter) (a b c rises falls work out : List ℤ) : Type 0 where
   pub plane : holds (plane_number x.inputs.source.plane)
-  pub many : RowsRequires x rows_after.row rows_after.count work out
+  pub many : SlopeRowsRequires x rows_after.row rows_after.count work out
   pub rows : Rows x.inputs.source.frame.columns a b c
   pub slopes : Slopes (padded (plane_in x)) x.inputs.source.frame.columns x.width x.height (ABOVE + rows_after.row) 0 rises falls
   pub leaving : Holds c (padded (plane_in x) (ABOVE + rows_after.row - x.height))

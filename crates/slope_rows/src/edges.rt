@@ -5,7 +5,7 @@ ghost use Rattle.std.specs.Prelude.{suc};
 ghost use Rattle.spec_picture.specs.Window.{shape_of};
 ghost use Rattle.spec_picture.specs.Checked.{given};
 ghost use Rattle.spec_rows.specs.Rows.{strip, Advanced};
-ghost use Rattle.slope_rows.specs.Edges.{plane_in, RowsRequires, FreshRequires};
+ghost use Rattle.slope_rows.specs.Edges.{plane_in, SlopeRowsRequires, FreshRequires};
 
 use crate::kept_slopes::SlantedInputs;
 use rows::rows_from;
@@ -20,7 +20,7 @@ pub fn rows_by_slopes(
     work: &mut [i64],
     out: &mut [i64],
 )
-    requires { RowsRequires slanted.now i n work.old out.old }
+    requires { SlopeRowsRequires slanted.now i n work.old out.old }
     ensures { Advanced (strip slanted.now.inputs.source.frame (plane_in slanted.now) (shape_of (given slanted.now.inputs.window)) (suc i) n work.old) work.new out.new }
 {
     if slanted.inputs.source.plane.is_narrow() {
@@ -31,7 +31,7 @@ pub fn rows_by_slopes(
 }
 
 // The first n rows, of a plane of ones or levels.
-pub fn fresh(slanted: &SlantedInputs<'_>, n: usize, work: &mut [i64], out: &mut [i64])
+pub fn top_rows_by_slopes(slanted: &SlantedInputs<'_>, n: usize, work: &mut [i64], out: &mut [i64])
     requires { FreshRequires slanted.now n work.old out.old }
     ensures { Advanced (strip slanted.now.inputs.source.frame (plane_in slanted.now) (shape_of (given slanted.now.inputs.window)) 0 n work.old) work.new out.new }
 {

@@ -16,7 +16,7 @@ use slope_loops::padding::{ABOVE, PlaneValue, ROW_LENGTH};
 
 // The slopes of row i, h cells of each.
 #[tactic(auto, unfolding(spec_picture::specs::Frame::frame_legal))]
-pub fn start<S: Slope>(
+pub fn start_slopes<S: Slope>(
     slanted: &SlantedInputs<'_>,
     i: usize,
     a: &mut [S::Value; ROW_LENGTH],

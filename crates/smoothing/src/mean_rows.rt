@@ -11,7 +11,7 @@ use row_session::blocks::next_block;
 use spec_picture::{CheckedInputs, Plane};
 use windows::clip;
 
-// The means of every row of a picture alone, 16 rows after the other. The room is on the stack, since there is no heap: a row of either plane in counts and totals, and 16
+// The means of every row of a picture alone, 16 rows after the other. The buffers are on the stack, since there is no heap: a row of either plane in counts and totals, and 16
 // rows of its sums in n and s.
 pub fn every_row(inputs: &CheckedInputs<'_>, out: &mut [i16])
     requires { SmoothRequires (checked_inputs inputs.now) out.old }

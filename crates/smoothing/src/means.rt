@@ -28,7 +28,7 @@ fn mean(s: i64, by: Reciprocal) -> i16
     by.nearest_by(s) as i16
 }
 
-// The means of such cells, whose N and S stand at the fronts of two areas. Along a row N seldom changes, so its reciprocal is kept from cell to
+// The means of such cells, whose N and S are at the fronts of two areas. Along a row N seldom changes, so its reciprocal is kept from cell to
 // cell.
 pub fn row_means(n: &[i64], s: &[i64], out: &mut [i16])
     requires { MeansRequires n.now s.now out.old }

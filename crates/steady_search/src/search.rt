@@ -11,7 +11,7 @@ use row_session::blocks::next_block;
 use spec_picture::{Cell, CheckedInputs, Plane};
 use windows::clip;
 
-// "the first cell in row order whose voice answer is Steady", 16 rows after the other. The room is on the stack, since there is no heap: a row of each plane in counts, totals
+// "the first cell in row order whose voice answer is Steady", 16 rows after the other. The buffers are on the stack, since there is no heap: a row of each plane in counts, totals
 // and squares, and 16 rows of its sums in n, s and a.
 pub fn by_blocks(inputs: &CheckedInputs<'_>) -> Option<Cell>
     ensures { option_of result ≡ first_steady (checked_inputs inputs.now) }

@@ -15,16 +15,16 @@ use Rattle.numbers.proofs.Writes.{at, Upto, upto-none, upto-more, upto_all}
 use Rattle.table.specs.RowSums.{row_number}
 
 -- j numbers of the row are the table's, and the rest is as it was
-pub record Written (above : List ℤ) (row : ℕ → ℤ) (old now : List ℤ) (sum : ℤ) (j : ℕ) : Type 0 where
+pub record RowWritten (above : List ℤ) (row : ℕ → ℤ) (old now : List ℤ) (sum : ℤ) (j : ℕ) : Type 0 where
   pub summed : sum ≡ wrap (sum_to j row)
   pub numbers : Upto (row_number above row) old now j
 
-pub written_none : (above : List ℤ) (row : ℕ → ℤ) (old : List ℤ) → Written above row old old (pos 0) 0
+pub written_none : (above : List ℤ) (row : ℕ → ℤ) (old : List ℤ) → RowWritten above row old old (pos 0) 0
 written_none above row old = record { summed = running_none row; numbers = upto-none (row_number above row) old }
 
-module _ {above : List ℤ} {row : ℕ → ℤ} {old now : List ℤ} {sum : ℤ} {j : ℕ} (w : Written above row old now sum j) where
+module _ {above : List ℤ} {row : ℕ → ℤ} {old now : List ℤ} {sum : ℤ} {j : ℕ} (w : RowWritten above row old now sum j) where
   -- one number more: the value x is added to the sum, and the sum to the number above
-  pub written-more : (x next v : ℤ) → j < length old → x ≡ row j → next ≡ wrap (sum +ℤ x) → v ≡ wrap (at above j +ℤ next) → Written above row old (set now j v) next (j + 1)
+  pub written-more : (x next v : ℤ) → j < length old → x ≡ row j → next ≡ wrap (sum +ℤ x) → v ≡ wrap (at above j +ℤ next) → RowWritten above row old (set now j v) next (j + 1)
   written-more x next v room value is-next is-v =
       let e : next ≡ wrap (sum_to (suc j) row) = is-next ∙ running_more row j sum x w.summed (ap wrap value) in
       record {
@@ -36,6 +36,6 @@ module _ {above : List ℤ} {row : ℕ → ℤ} {old now : List ℤ} {sum : ℤ}
   written_all all = upto_all w.numbers all
 
 -- the same where nothing is above
-pub first_more : {row : ℕ → ℤ} {old now : List ℤ} {sum : ℤ} {j : ℕ} → Written [] row old now sum j → (x next : ℤ) → j < length old → x ≡ row j → next ≡ wrap (sum +ℤ x) → Written [] row old (set now j next) next (j + 1)
+pub first_more : {row : ℕ → ℤ} {old now : List ℤ} {sum : ℤ} {j : ℕ} → RowWritten [] row old now sum j → (x next : ℤ) → j < length old → x ≡ row j → next ≡ wrap (sum +ℤ x) → RowWritten [] row old (set now j next) next (j + 1)
 first_more {row} {old} {now} {sum} {j} w x next room value is-next =
     written-more w x next next room value is-next (is-next ∙ sym (wrap-wrap (sum +ℤ x)) ∙ sym (ap wrap (+ℤ_idl next ∙ is-next)))

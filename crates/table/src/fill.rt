@@ -10,7 +10,7 @@ ghost use Rattle.spec_picture.specs.Picture.{plane_at};
 ghost use Rattle.spec_picture.specs.Checked.{checked_source};
 ghost use Rattle.table.specs.RowSums.{row_number};
 ghost use Rattle.spec_table.specs.Table.{table_of};
-ghost use Rattle.table.specs.Fill.{RowRequires};
+ghost use Rattle.table.specs.Fill.{TableRowRequires};
 
 use crate::level_sums::next_levels;
 use crate::row_sums::{first_row, next_row};
@@ -28,7 +28,7 @@ fn table_row(
     buffer: &mut [i16],
     row: &mut [i64],
 )
-    requires { RowRequires source.now.frame i above.now buffer.old row.old }
+    requires { TableRowRequires source.now.frame i above.now buffer.old row.old }
     ensures { row.new ≡ tabulate source.now.frame.columns (row_number above.now (plane_at (checked_source source.now) i)) }
 {
     let view = view_of(source);

@@ -100,7 +100,7 @@ impl Pictures {
 }
 
 // A window number: a small one in five of six, else any that a shape allows.
-fn drawn_number(n: u64, shape: u32) -> usize {
+fn chosen_number(n: u64, shape: u32) -> usize {
     let most = match (n / 3 % 6, shape) {
         (0, 3) => 64,
         (0, _) => 128,
@@ -130,11 +130,11 @@ pub fn kth(k: usize) -> Case {
         rows: (n(0) / 64 % 24 + 1) as usize,
         columns: (n(1) / 64 % 40 + 1) as usize,
         shape,
-        first: drawn_number(n(2), shape),
+        first: chosen_number(n(2), shape),
         second: if shape == 2 {
             0
         } else {
-            drawn_number(n(3), shape)
+            chosen_number(n(3), shape)
         },
         shift: Shift {
             down: shift_number(n(4), 20, 255),

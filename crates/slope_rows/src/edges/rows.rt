@@ -8,7 +8,7 @@ ghost use Rattle.slope_rows.specs.Edges.{plane_in, AfterRequires, TopRequires, T
 use crate::kept_slopes::SlantedInputs;
 use crate::next_row;
 use crate::places::CallRow;
-use crate::slope_starts::{first_row, start};
+use crate::slope_starts::{first_row, start_slopes};
 use direct_sum::window_sums;
 use slope_loops::loops::Slope;
 use slope_loops::padding::{ABOVE, PlaneValue, ROW_LENGTH};
@@ -24,7 +24,7 @@ pub struct RowsAfter {
 }
 
 // Rows after a row, from the slopes of that row; c has the row that leaves in the middle.
-fn after<S: Slope>(
+fn rows_after<S: Slope>(
     slanted: &SlantedInputs<'_>,
     rows: RowsAfter,
     a: &mut [S::Value; ROW_LENGTH],
@@ -102,11 +102,11 @@ pub fn rows_from<S: Slope>(
     let mut c = [S::Value::zero(); ROW_LENGTH];
     let mut rises = [S::zero(); ROW_LENGTH];
     let mut falls = [S::zero(); ROW_LENGTH];
-    start(slanted, i, &mut a, &mut b, &mut rises, &mut falls);
+    start_slopes(slanted, i, &mut a, &mut b, &mut rises, &mut falls);
     S::Value::load(&slanted.inputs.source, ABOVE + i - slanted.height, &mut c);
     let begin = top_row(fresh, slanted, &rises, &falls, work, out);
     let rows = RowsAfter { row: i, count: n };
-    after(
+    rows_after(
         slanted,
         rows,
         &mut a,

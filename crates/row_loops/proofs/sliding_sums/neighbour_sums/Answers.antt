@@ -21,11 +21,11 @@ returns c =
     let entered =
     slid-on begun low (omega arith) (omega arith) c.slide-s.ensures
     (λ k l. ap₂ ◌-ℤ◌ (enters-from row b (0 + k) reach (reach + low - reach) k (omega arith) (omega arith) (omega arith)) (leaves_none row b (0 + k) (omega arith))) in
-    let exchanged =
+    let both-moved =
     slid-on entered enters (omega arith) (omega arith) c.slide-s-2.ensures
     (λ k l. ap₂ ◌-ℤ◌ (enters-from row b (low + k) (n - both) (n - (n - both)) k (omega arith) (omega arith) (omega arith)) (leaves-from row b (low + k) 0 both k (omega arith) (omega arith) (omega arith))) in
     let kept =
-    slid-on exchanged high (omega arith) (omega arith) c.slide-s-3.ensures
+    slid-on both-moved high (omega arith) (omega arith) c.slide-s-3.ensures
     (λ k l. ap₂ ◌-ℤ◌ (enters_none row b (enters + k) (omega arith)) (leaves_none row b (enters + k) (omega arith))) in
     let left =
     slid-on kept n (omega arith) (omega arith) c.slide.ensures

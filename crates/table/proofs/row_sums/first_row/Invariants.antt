@@ -1,8 +1,8 @@
 -- What the loop of `table::row_sums::first_row` keeps. Assumes nothing.
 use mathlib.Core.List.{[]}
 use Rattle.table.specs.RowSums.{number}
-use Rattle.table.proofs.Written.{Written}
+use Rattle.table.proofs.Written.{RowWritten}
 use Rattle.table.proofs.row_sums.first_row.Given as goal
 
 abbrev pub invariant-loop-j : goal.invariant-loop-j
-invariant-loop-j l = Written [] (number l.initial.row) l.initial.row l.row l.sum l.j
+invariant-loop-j l = RowWritten [] (number l.initial.row) l.initial.row l.row l.sum l.j

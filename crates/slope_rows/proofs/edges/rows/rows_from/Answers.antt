@@ -16,8 +16,8 @@ use Rattle.slope_rows.proofs.Zeros.{blank, no-slopes}
 use Rattle.slope_loops.specs.declared.padding.TheConstants.{ABOVE, ROW_LENGTH}
 use Rattle.slope_rows.proofs.edges.rows.rows_from.Goals as goal
 
-pub start-requires : goal.start-requires
-start-requires g c =
+pub start_slopes-requires : goal.start_slopes-requires
+start_slopes-requires g c =
     let x = c.args.slanted.now in
     let columns = x.inputs.source.frame.columns in (
       g.met.S.Value.PlaneValue.row_fits,
@@ -46,10 +46,10 @@ load-requires g c =
     let columns = c.args.slanted.now.inputs.source.frame.columns in
     (g.met.S.Value.PlaneValue.row_fits, (c.requires.plane, blank g.S.Value.PlaneValue.value ROW_LENGTH refl columns c.zero-c.result c.zero-c.ensures))
 
-pub after-requires : goal.after-requires
-after-requires g c =
+pub rows_after-requires : goal.rows_after-requires
+rows_after-requires g c =
     let x = c.args.slanted.now in
-    let r = c.start.ensures in
+    let r = c.start_slopes.ensures in
     let leaves = c.load.ensures in
     let top = c.top_row-begin in
     let columns = c.args.slanted.now.inputs.source.frame.columns in
@@ -77,7 +77,7 @@ pub returns : goal.returns
 returns g c =
     let x : Inputs = checked_inputs c.args.slanted.now.inputs in
     let top = c.top_row-begin in
-    let rest = c.after in
+    let rest = c.rows_after in
     let end = length top.new.out in
     let f = rest-fits _ _ _ _ _ top.ensures.begins top.ensures.none c.requires.room_fresh c.requires.room_after in
     let kept = top.auto.out in

@@ -1,4 +1,4 @@
--- What the loops of `slope_rows::edges::rows::after` keep. Assumes nothing.
+-- What the loops of `slope_rows::edges::rows::rows_after` keep. Assumes nothing.
 use mathlib.Core.Path.{◌≡◌}
 use Prim.Native.Nat.{suc, ◌+◌, ◌-◌, ◌≤◌}
 use mathlib.Core.List.{map}
@@ -10,7 +10,7 @@ use Rattle.slope_rows.specs.Edges.{plane_in, Slopes, Rows}
 use Rattle.slope_loops.specs.Loops.{Holds}
 use Rattle.spec_rows.proofs.Strips.{Partly}
 use Rattle.slope_loops.specs.declared.padding.TheConstants.{ABOVE}
-use Rattle.slope_rows.proofs.edges.rows.after.Given as goal
+use Rattle.slope_rows.proofs.edges.rows.rows_after.Given as goal
 
 abbrev pub invariant-loop-m : goal.invariant-loop-m
 invariant-loop-m g l =

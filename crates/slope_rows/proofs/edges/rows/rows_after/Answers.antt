@@ -1,4 +1,4 @@
--- `slope_rows::edges::rows::after` meets its contract. Assumes nothing.
+-- `slope_rows::edges::rows::rows_after` meets its contract. Assumes nothing.
 use mathlib.Core.Path.{◌≡◌, refl, ◌∙◌}
 use Rattle.spec_picture.proofs.Found.{limits}
 use Rattle.std.proofs.Common.{rules}
@@ -15,7 +15,7 @@ use Rattle.slope_rows.specs.Edges.{plane_in}
 use Rattle.slope_rows.proofs.Advances.{passed-more}
 use Rattle.spec_rows.proofs.Strips.{partly_none, partly-all}
 use Rattle.slope_loops.specs.declared.padding.TheConstants.{ABOVE}
-use Rattle.slope_rows.proofs.edges.rows.after.Goals as goal
+use Rattle.slope_rows.proofs.edges.rows.rows_after.Goals as goal
 
 pub loop-m-init : goal.loop-m-init
 loop-m-init g c =

@@ -1,11 +1,11 @@
--- What the loops of `slope_rows::slope_starts::start` keep. Assumes nothing.
+-- What the loops of `slope_rows::slope_starts::start_slopes` keep. Assumes nothing.
 use Prim.Native.Nat.{◌+◌}
 use mathlib.Core.List.{map}
 use Rattle.slope_loops.specs.Slopes.{padded}
 use Rattle.slope_loops.specs.Loops.{Blank}
 use Rattle.slope_rows.specs.Edges.{plane_in, Slopes}
 use Rattle.slope_loops.specs.declared.padding.TheConstants.{ABOVE}
-use Rattle.slope_rows.proofs.slope_starts.start.Given as goal
+use Rattle.slope_rows.proofs.slope_starts.start_slopes.Given as goal
 
 abbrev pub invariant-loop-t : goal.invariant-loop-t
 invariant-loop-t g l =

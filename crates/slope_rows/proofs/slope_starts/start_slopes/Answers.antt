@@ -1,4 +1,4 @@
--- `slope_rows::slope_starts::start` meets its contract. Assumes nothing.
+-- `slope_rows::slope_starts::start_slopes` meets its contract. Assumes nothing.
 use Rattle.std.proofs.Common.{rules}
 use native.Mathlib.Omega.{arith}
 use Rattle.spec_picture.specs.Picture.{plane_at}
@@ -6,7 +6,7 @@ use Rattle.spec_picture.specs.Checked.{checked_source}
 use Rattle.spec_picture.proofs.Planes.{plane-beside}
 use Rattle.slope_rows.proofs.Kept.{blank_of, slopes-cell}
 use Rattle.slope_rows.proofs.Required.{row-limits, rises-gather, falls-gather}
-use Rattle.slope_rows.proofs.slope_starts.start.Goals as goal
+use Rattle.slope_rows.proofs.slope_starts.start_slopes.Goals as goal
 
 pub gather-requires : goal.gather-requires
 gather-requires g c =
