@@ -1,4 +1,4 @@
-// What the language lacks, or lacks proofs of: wrapping sums, products past 64 bits, reciprocals.
+// What the language lacks, or lacks proofs of: wrapping sums, products past 64 bits, reciprocals. It knows no picture, window or plane.
 #![tactic(auto)]
 
 pub mod wrapping; // wrapping.rt: sums and differences that wrap at 64 bits

@@ -1,4 +1,4 @@
-// The first refusal of each operation, or its inputs with what the checks have found.
+// The first refusal of each operation, or its inputs with what the checks have found. No sum is made here, and no area is written.
 #![tactic(auto, unfolding(spec_picture::specs::Refusal::refusal, spec_picture::specs::Refusal::outcome))]
 
 pub mod legal_frames; // legal_frames.rt: the limits of a frame

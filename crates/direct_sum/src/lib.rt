@@ -1,4 +1,4 @@
-// The direct sum: the sum of the plane over the window.
+// The direct sum: the sum of the plane over the window. Its checks are in `checks`, and which cells count is known in `plane_rows`.
 #![tactic(auto, unfolding(spec_picture::specs::Refusal::refusal, spec_picture::specs::Refusal::outcome, spec_picture::specs::Direct::direct_call))]
 
 pub mod row_totals; // row_totals.rt: the values of a row's cells, summed

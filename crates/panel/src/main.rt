@@ -1,4 +1,5 @@
-// The program panel: a picture's text from standard input, its smoothed picture, or the line of a refusal, to standard output.
+// The program panel: a picture's text from standard input, its smoothed picture, or the line of a refusal, to standard output. What a
+// text means, and what is printed for it, is in `panel_text`.
 #![tactic(auto)]
 
 ghost use Rattle.std.specs.Prelude.{◌≡◌, ◌≤◌, ◌<◌, length, take, OnOk, IfOk, IfSome};

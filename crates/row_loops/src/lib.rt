@@ -1,4 +1,4 @@
-// Loops over rows: what enters and leaves a row of sums, and the sliding sum across a row.
+// Loops over rows: what enters and leaves a row of sums, and the sliding sum across a row. Which rows those are is known above, where the window is.
 #![tactic(auto)]
 
 pub mod entering_loops; // entering_loops.rt: one loop for each kind of value

@@ -1,4 +1,5 @@
-// The row session: the sums of the next rows, from a lent work area that one row hands to the next.
+// The row session: the sums of the next rows, from a lent work area that one row hands to the next. Its checks are in `checks`; from one row to the next go `row_steps`
+// and `slope_rows`.
 #![tactic(auto)]
 
 pub mod advance; // advance.rt: many rows

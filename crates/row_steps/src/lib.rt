@@ -1,4 +1,4 @@
-// From one row to the next: the row that enters a window's sums and the one that leaves.
+// From one row to the next: the row that enters a window's sums and the one that leaves. How many rows a call gives is known in `row_session`.
 #![tactic(auto)]
 
 pub mod first_rows; // first_rows.rt: the work area on row 0

@@ -1,4 +1,5 @@
-// From one row to the next of a diamond's or hexagon's window sums, by the slopes of its edges, which move on with it.
+// From one row to the next of a diamond's or hexagon's window sums, by the slopes of its edges, which move on with it. Whether a call goes
+// this way is decided in `row_session`.
 #![tactic(auto)]
 
 pub mod flat_edge; // flat_edge.rt: the flat parts of the edges

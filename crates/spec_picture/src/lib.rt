@@ -1,4 +1,5 @@
-// The picture, its window, and two pictures under a shift: their types. What they mean is in specs/.
+// The picture, its window, and two pictures under a shift: their types. What they mean is in specs/. No operation
+// is computed here.
 #![tactic(auto)]
 
 ghost use Rattle.std.specs.Prelude.{◌≡◌};

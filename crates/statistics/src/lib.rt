@@ -1,4 +1,5 @@
-// What six sums say: mean, variance and deviation, the voice answer, the coefficient; and whether six sums are possible.
+// What six sums say: mean, variance and deviation, the voice answer, the coefficient; and whether six sums are possible. Where the sums come
+// from is no matter here.
 #![tactic(auto)]
 
 pub mod bounds; // bounds.rt: the bounds of refusal 9

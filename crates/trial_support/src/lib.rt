@@ -1,4 +1,4 @@
-// What the trials rest on: what they compare and count, the calls that they make, and the rival.
+// What the trials rest on: what they compare and count, the calls that they make, and the rival. Nothing is tried here.
 #![tactic(auto)]
 
 pub mod tally; // tally.rt: what a group of trials has compared

@@ -1,4 +1,5 @@
 // A legal window by its rows and by its columns, its ends clipped to the picture, and when the slopes of its edges are the faster way.
+// It knows how large a picture is, and nothing of what is in it.
 #![tactic(auto)]
 
 pub mod shape; // shape.rt: how far a window goes up and down, and to the sides
