@@ -84,30 +84,48 @@ struct Shift {
     int32_t down, right;
 };
 
+// What columns_wrap is where the columns clip, as they do in all comparisons but those of the section on columns that wrap, and where they wrap.
+constexpr uint32_t CLIPPED = 0, WRAPPED = 1;
+
 // The sums of the two pictures, by calls of n rows each.
-void library_two(const Library &l, Window w, Shift d, uint32_t plane, const int16_t *g, size_t n, std::vector<int64_t> &out) {
+void library_two(const Library &l, uint32_t border, Window w, Shift d, uint32_t plane, const int16_t *g, size_t n, std::vector<int64_t> &out) {
     size_t position = 0, count = 0;
     while (position < ROWS)
-        granted(l.rows(&position, ROWS, COLUMNS, picture.data(), CELLS, g, CELLS, w.shape, w.first, w.second, d.down, d.right, plane, n, work.data(), COLUMNS,
-                       out.data() + position * COLUMNS, n * COLUMNS, &count),
+        granted(l.rows(&position, ROWS, COLUMNS, border, picture.data(), CELLS, g, CELLS, w.shape, w.first, w.second, d.down, d.right, plane, n, work.data(),
+                       COLUMNS, out.data() + position * COLUMNS, n * COLUMNS, &count),
                 "ls_rows");
 }
 
 // The whole picture's sums, by calls of n rows each.
-void library_rows(const Library &l, Window w, uint32_t plane, size_t n, std::vector<int64_t> &out) { library_two(l, w, {0, 0}, plane, picture.data(), n, out); }
+void library_rows(const Library &l, Window w, uint32_t plane, size_t n, std::vector<int64_t> &out) { library_two(l, CLIPPED, w, {0, 0}, plane, picture.data(), n, out); }
 
-void library_build(const Library &l, std::vector<int64_t> &out) {
-    granted(l.build(ROWS, COLUMNS, picture.data(), CELLS, picture.data(), CELLS, 0, 0, LS_PLANE_F, out.data(), CELLS), "ls_build");
+// The table of the two pictures.
+void library_build_two(const Library &l, uint32_t border, Shift d, uint32_t plane, const int16_t *g, std::vector<int64_t> &out) {
+    granted(l.build(ROWS, COLUMNS, border, picture.data(), CELLS, g, CELLS, d.down, d.right, plane, out.data(), CELLS), "ls_build");
 }
 
-void library_smooth(const Library &l, Window w) {
-    granted(l.smooth(ROWS, COLUMNS, picture.data(), CELLS, w.shape, w.first, w.second, means.data(), CELLS), "ls_smooth");
+void library_build(const Library &l, std::vector<int64_t> &out) { library_build_two(l, CLIPPED, {0, 0}, LS_PLANE_F, picture.data(), out); }
+
+int64_t library_direct(const Library &l, uint32_t border, Window w, size_t i, size_t j) {
+    int64_t s = 0;
+    granted(l.direct_sum(ROWS, COLUMNS, border, picture.data(), CELLS, picture.data(), CELLS, w.shape, w.first, w.second, 0, 0, LS_PLANE_F, i, j, &s), "ls_direct_sum");
+    return s;
+}
+
+int64_t library_read(const Library &l, uint32_t border, Window w, size_t i, size_t j) {
+    int64_t s = 0;
+    granted(l.read(ROWS, COLUMNS, border, table.data(), CELLS, w.shape, w.first, w.second, i, j, &s), "ls_read");
+    return s;
+}
+
+void library_smooth(const Library &l, uint32_t border, Window w) {
+    granted(l.smooth(ROWS, COLUMNS, border, picture.data(), CELLS, w.shape, w.first, w.second, means.data(), CELLS), "ls_smooth");
 }
 
 // The picture has no steady cell, so the search goes through all of it.
 void library_steady(const Library &l, Window w) {
     size_t row = 0, column = 0;
-    const int32_t status = l.steady(ROWS, COLUMNS, picture.data(), CELLS, picture.data(), CELLS, w.shape, w.first, w.second, 0, 0, &row, &column);
+    const int32_t status = l.steady(ROWS, COLUMNS, CLIPPED, picture.data(), CELLS, picture.data(), CELLS, w.shape, w.first, w.second, 0, 0, &row, &column);
     if (status != LS_NOWHERE) fail("ls_steady answered " + std::to_string(status));
 }
 
@@ -207,6 +225,11 @@ void absolutely(const std::string &what, const Runs &r, size_t ours, double call
 }
 
 std::string square(int32_t half) { return std::to_string(2 * half + 1) + " × " + std::to_string(2 * half + 1); }
+
+std::string name_of(Window w) {
+    if (w.shape == LS_RECTANGLE) return square(w.first);
+    return w.shape == LS_DIAMOND ? "diamond " + std::to_string(w.first) : "hexagon " + std::to_string(w.first) + ", " + std::to_string(w.second);
+}
 
 const std::vector<int32_t> HALVES = {1, 3, 7, 15, 31, 63, 127};
 
@@ -323,7 +346,7 @@ void products() {
         const std::string name = square(half);
         for (Shift d : {Shift{0, 0}, Shift{3, 40}}) {
             const bool shifted = d.right > 0;
-            const auto library = [=](const Library &l, size_t n, std::vector<int64_t> &out) { library_two(l, w, d, LS_PLANE_PRODUCT, other_picture.data(), n, out); };
+            const auto library = [=](const Library &l, size_t n, std::vector<int64_t> &out) { library_two(l, CLIPPED, w, d, LS_PLANE_PRODUCT, other_picture.data(), n, out); };
             const auto plain_rust = [=] {
                 plain_products(ROWS, COLUMNS, picture.data(), other_picture.data(), unsigned_of(d.down), unsigned_of(d.right), unsigned_of(half), unsigned_of(half), work.data(), rival.data());
             };
@@ -389,7 +412,7 @@ void slanted() {
         const size_t opencv64 = r.other(filter64), opencv32 = r.other(filter32);
 #endif
         r.measure(h > 40 ? 30 : 60);
-        const std::string name = diamond ? "diamond " + std::to_string(w.first) : "hexagon " + std::to_string(w.first) + ", " + std::to_string(w.second);
+        const std::string name = name_of(w);
 #ifdef WITH_OPENCV
         row(name, "`cv::filter2D`, 16S to 64F", r, one, opencv64);
         row(name, "`cv::filter2D`, 32F", r, one, opencv32);
@@ -408,11 +431,11 @@ void smoothing() {
     section("Smoothing", "`ls_smooth` beside normalised `cv::boxFilter` from CV_16S to CV_16S, which divides by the whole window at the border too; the results are equal at all cells whose window lies inside the picture.");
     for (int32_t half : HALVES) {
         const Window w = {LS_RECTANGLE, half, half};
-        library_smooth(NOW, w);
+        library_smooth(NOW, CLIPPED, w);
         plain_smooth(ROWS, COLUMNS, picture.data(), unsigned_of(half), unsigned_of(half), rival_means.data());
         if (means != rival_means) fail("smoothing differs from plain Rust");
         Runs r;
-        const size_t ours = r.ours([=](const Library &l) { library_smooth(l, w); });
+        const size_t ours = r.ours([=](const Library &l) { library_smooth(l, CLIPPED, w); });
         const size_t plain = r.other([=] { plain_smooth(ROWS, COLUMNS, picture.data(), unsigned_of(half), unsigned_of(half), rival_means.data()); });
         const size_t copy = r.other(copy_means);
 #ifdef WITH_OPENCV
@@ -451,30 +474,20 @@ void searching() {
     }
 }
 
+// What f gives at 1,000 cells all over the picture, added.
+int64_t each(const std::function<int64_t(size_t, size_t)> &f) {
+    int64_t s = 0;
+    for (size_t k = 0; k < 1000; k++) s += f(k * 7919 % ROWS, k * 104729 % COLUMNS);
+    return s;
+}
+
 void single_cells() {
     section("Single cells", "Direct sums and table readings at 1,000 cells all over the picture, beside plain Rust, which checks nothing.");
     library_build(NOW, table);
     for (const Window w : {Window{LS_RECTANGLE, 1, 1}, Window{LS_RECTANGLE, 7, 7}, Window{LS_RECTANGLE, 127, 127}, Window{LS_DIAMOND, 7, 0}, Window{LS_DIAMOND, 127, 0}, Window{LS_HEXAGON, 63, 64}}) {
         static int64_t total, other;
-        const auto each = [](const std::function<int64_t(size_t, size_t)> &f) {
-            int64_t s = 0;
-            for (size_t k = 0; k < 1000; k++) s += f(k * 7919 % ROWS, k * 104729 % COLUMNS);
-            return s;
-        };
-        const auto direct = [=](const Library &l) {
-            total = each([=](size_t i, size_t j) {
-                int64_t s = 0;
-                granted(l.direct_sum(ROWS, COLUMNS, picture.data(), CELLS, picture.data(), CELLS, w.shape, w.first, w.second, 0, 0, LS_PLANE_F, i, j, &s), "ls_direct_sum");
-                return s;
-            });
-        };
-        const auto read = [=](const Library &l) {
-            total = each([=](size_t i, size_t j) {
-                int64_t s = 0;
-                granted(l.read(ROWS, COLUMNS, table.data(), CELLS, w.shape, w.first, w.second, i, j, &s), "ls_read");
-                return s;
-            });
-        };
+        const auto direct = [=](const Library &l) { total = each([=](size_t i, size_t j) { return library_direct(l, CLIPPED, w, i, j); }); };
+        const auto read = [=](const Library &l) { total = each([=](size_t i, size_t j) { return library_read(l, CLIPPED, w, i, j); }); };
         const auto plain_direct = [=] { other = each([=](size_t i, size_t j) { return plain_direct_sum(ROWS, COLUMNS, picture.data(), w.shape, unsigned_of(w.first), unsigned_of(w.second), i, j); }); };
         const auto plain_reading = [=] { other = each([=](size_t i, size_t j) { return plain_read(ROWS, COLUMNS, table.data(), w.shape, unsigned_of(w.first), unsigned_of(w.second), i, j); }); };
         direct(NOW);
@@ -487,7 +500,7 @@ void single_cells() {
             if (total != sum || other != sum) fail("single cells differ");
         }
         r.measure(w.first > 40 ? 60 : 400);
-        const std::string name = w.shape == LS_RECTANGLE ? square(w.first) : w.shape == LS_DIAMOND ? "diamond " + std::to_string(w.first) : "hexagon " + std::to_string(w.first) + ", " + std::to_string(w.second);
+        const std::string name = name_of(w);
         row("`ls_direct_sum`, " + name, "plain Rust", r, directly, plainly);
         row("`ls_read`, " + name, "plain Rust", r, by_table, plainly_by_table);
         if (w.first == 7 && w.shape == LS_RECTANGLE) {
@@ -497,17 +510,67 @@ void single_cells() {
     }
 }
 
+// Columns that clip, and beside them the same call with columns that wrap.
+void border_row(const std::string &what, size_t rounds, const std::function<void(const Library &, uint32_t)> &run) {
+    Runs r;
+    const size_t clipped = r.ours([=](const Library &l) { run(l, CLIPPED); });
+    const size_t wrapped = r.other([=] { run(NOW, WRAPPED); });
+    r.measure(rounds);
+    row(what, "itself, columns that wrap", r, clipped, wrapped);
+}
+
+// The sums over a window where columns wrap, by rows, from a table and by single rows.
+void agree_wrapped(Window w, Shift d, uint32_t plane, const int16_t *g) {
+    library_two(NOW, WRAPPED, w, d, plane, g, ROWS, sums);
+    library_two(NOW, WRAPPED, w, d, plane, g, 1, rival);
+    equal(name_of(w) + " by single rows, columns that wrap", sums, rival);
+    library_build_two(NOW, WRAPPED, d, plane, g, table);
+    for (size_t k = 0; k < CELLS; k++) rival[k] = library_read(NOW, WRAPPED, w, k / COLUMNS, k % COLUMNS);
+    equal(name_of(w) + " read, columns that wrap", sums, rival);
+}
+
+// Document 02's change 1: the switch on beside the switch off.
+void borders() {
+    section("Columns that wrap",
+            "Each call with columns that clip beside the same call with columns that wrap: the ratio is how many times as long the second takes. Plane 1 is of one picture, plane 5 of two under a shift of 3 rows and 40 columns. Rows are summed by one call of 256 rows; direct sums and readings are at 1,000 cells.");
+    const std::vector<Window> windows = {{LS_RECTANGLE, 1, 1}, {LS_RECTANGLE, 7, 7}, {LS_RECTANGLE, 127, 127}, {LS_DIAMOND, 2, 0}, {LS_DIAMOND, 16, 0}, {LS_DIAMOND, 127, 0}};
+    for (uint32_t plane : {LS_PLANE_F, LS_PLANE_PRODUCT}) {
+        const bool two = plane == LS_PLANE_PRODUCT;
+        const Shift d = two ? Shift{3, 40} : Shift{0, 0};
+        const int16_t *g = two ? other_picture.data() : picture.data();
+        const std::string of_plane = ", plane " + std::to_string(plane);
+        for (const Window w : windows) {
+            agree_wrapped(w, d, plane, g);
+            border_row("`ls_rows`, " + name_of(w) + of_plane, 120, [=](const Library &l, uint32_t border) { library_two(l, border, w, d, plane, g, ROWS, sums); });
+        }
+        border_row("`ls_build`" + of_plane, 400, [=](const Library &l, uint32_t border) { library_build_two(l, border, d, plane, g, table); });
+    }
+    library_build(NOW, table);
+    for (const Window w : windows) {
+        static int64_t total;
+        const auto direct = [=](const Library &l, uint32_t border) { total = each([&](size_t i, size_t j) { return library_direct(l, border, w, i, j); }); };
+        const auto read = [=](const Library &l, uint32_t border) { total = each([&](size_t i, size_t j) { return library_read(l, border, w, i, j); }); };
+        direct(NOW, WRAPPED);
+        const int64_t sum = total;
+        read(NOW, WRAPPED);
+        if (total != sum) fail("single cells differ where columns wrap");
+        border_row("`ls_direct_sum`, " + name_of(w), w.first > 40 ? 60 : 400, direct);
+        border_row("`ls_read`, " + name_of(w), w.first > 40 ? 60 : 400, read);
+    }
+    for (const Window w : windows) border_row("`ls_smooth`, " + name_of(w), 60, [=](const Library &l, uint32_t border) { library_smooth(l, border, w); });
+}
+
 // The statistics of the six sums of 1,000 windows of 15 x 15; they have no rival here.
 void statistics() {
     static std::vector<int64_t> z;
     for (size_t k = 0; k < 1000; k++)
         for (uint32_t plane = LS_PLANE_ONE; plane <= LS_PLANE_PRODUCT; plane++) {
             int64_t s = 0;
-            granted(ls_direct_sum(ROWS, COLUMNS, picture.data(), CELLS, picture.data(), CELLS, LS_RECTANGLE, 7, 7, 3, 5, plane, k * 7919 % (ROWS - 3), k * 104729 % (COLUMNS - 5), &s), "ls_direct_sum");
+            granted(ls_direct_sum(ROWS, COLUMNS, CLIPPED, picture.data(), CELLS, picture.data(), CELLS, LS_RECTANGLE, 7, 7, 3, 5, plane, k * 7919 % (ROWS - 3), k * 104729 % (COLUMNS - 5), &s), "ls_direct_sum");
             z.push_back(s);
         }
     static int64_t total;
-    const auto each = [](decltype(&ls_mean) f) {
+    const auto statistic = [](decltype(&ls_mean) f) {
         return [f] {
             for (size_t k = 0; k < z.size(); k += 6) {
                 int64_t x = 0;
@@ -517,7 +580,7 @@ void statistics() {
         };
     };
     Runs r;
-    const size_t mean = r.other(each(ls_mean)), deviation = r.other(each(ls_deviation)), coefficient = r.other(each(ls_coefficient));
+    const size_t mean = r.other(statistic(ls_mean)), deviation = r.other(statistic(ls_deviation)), coefficient = r.other(statistic(ls_coefficient));
     r.measure(200);
     absolutely("`ls_mean` of six sums", r, mean, 1000);
     absolutely("`ls_deviation` of six sums", r, deviation, 1000);
@@ -624,6 +687,7 @@ int main(int argc, char **argv) {
     smoothing();
     searching();
     single_cells();
+    borders();
     statistics();
     page = "# Benchmarks\n\nWritten by `bench/run`, from one run, one thread, on a picture of 256 × 1,024 random levels; this library's checks are included.\n\n- CPU: " + fact("BENCH_CPU") + "\n- this library: " + fact("BENCH_KIT") +
            "\n- C++: " + fact("BENCH_CXX") + ", -O3\n- Rust: " + fact("BENCH_RUST") + ", -C opt-level=3\n- OpenCV: " + opencv +

@@ -3,15 +3,17 @@
  *
  * A picture has 1 to 256 rows of 1 to 1,024 signed 16-bit levels, row by row; rows and columns
  * count from 0. A window sits on a cell, and its sum ranges over those of its cells that count.
- * Document 01, "Local statistics of drawn pictures", says what every function computes; the
- * functions are proved to answer so for every input that keeps the rules below.
+ * Document 01, "Local statistics of drawn pictures", says what every function computes, and change
+ * 1 of document 02 what it computes where columns wrap; the functions are proved to answer so for
+ * every input that keeps the rules below.
  *
  * WHAT COMES BACK. Every function returns a status:
  *
  *   LS_OK             it answered, and the answer is where the pointers point;
  *   LS_REFUSED_...    a condition holds under which the call is turned down. Each function names
- *                     its conditions; they are tried in the order of their numbers, and the first
- *                     that holds is the status;
+ *                     its conditions in the order in which they are tried, and the first that
+ *                     holds is the status. It is the order of their numbers, but for
+ *                     LS_REFUSED_WIDTH, 11, which comes before 6, 7 and 8;
  *   LS_EMPTY, LS_FLAT, LS_NOWHERE
  *                     there is no such statistic, or no such cell.
  *
@@ -58,7 +60,7 @@ extern "C" {
  * minor one where something is new. ls_version gives the library's, as major * 1,000,000 +
  * minor * 1,000 + patch; a program may hold it against the header that it was compiled with.
  */
-#define LS_VERSION_MAJOR 1
+#define LS_VERSION_MAJOR 2
 #define LS_VERSION_MINOR 0
 #define LS_VERSION_PATCH 0
 
@@ -78,11 +80,12 @@ uint32_t ls_version(void);
 #define LS_REFUSED_AREA 8     /* table, work or output area of another length */
 #define LS_REFUSED_SUMS 9     /* sums impossible */
 #define LS_REFUSED_TEXT 10    /* a number of panel's text is malformed, missing or too many */
+#define LS_REFUSED_WIDTH 11   /* columns wrap, and the window's widest row is above columns */
 #define LS_EMPTY (-1)         /* no cell counts: N is 0 */
 #define LS_FLAT (-2)          /* no coefficient: all levels of f, or all of g, are equal */
 #define LS_NOWHERE (-3)       /* no cell is steady */
 
-/* ---- Shapes, planes, voices ----------------------------------------------------------------- */
+/* ---- Shapes, planes, borders, voices -------------------------------------------------------- */
 
 /*
  * A window on the cell (i, j) is a shape and two numbers, and holds the cells (i+p, j+q) with:
@@ -110,6 +113,22 @@ uint32_t ls_version(void);
 #define LS_PLANE_G_SQUARED 4  /* the square of plane 2 */
 #define LS_PLANE_PRODUCT 5    /* the product of planes 1 and 2 */
 
+/*
+ * A looping picture joins its last column to its first. So each call that has columns takes
+ * columns_wrap: with 0 the columns clip, as said above, and with any other number they wrap. Rows
+ * clip always. Where columns wrap:
+ *
+ *   - A window goes on at the other end of a row: on (i, j) it holds the cells
+ *     (i+p, (j+q) mod columns). It may not meet itself: its widest row must fit the columns, or the
+ *     call is turned down with LS_REFUSED_WIDTH. The widest row has 2*second + 1 cells in a
+ *     rectangle, 2*first + 1 in a diamond, and 2*(first + second) + 1 in a hexagon; it may be as
+ *     wide as the picture, and its height is not asked.
+ *   - g is read at (m+down, (n+right) mod columns), however often that goes round. So a cell (m, n)
+ *     counts when row m+down is inside the picture.
+ *
+ * One number holds for all calls of a session, and for building a table and reading it.
+ */
+
 /* Kinds of voice. */
 #define LS_STEADY 1
 #define LS_GRAINY 2
@@ -131,43 +150,45 @@ uint32_t ls_version(void);
 /*
  * The sum of the plane over the window on the cell (row, column), to *sum.
  * f and g: rows times columns levels each.
- * Refusals: LS_REFUSED_SIZE, _PICTURE, _WINDOW, _SHIFT, _PLANE, _CELL.
+ * Refusals: LS_REFUSED_SIZE, _PICTURE, _WINDOW, _SHIFT, _PLANE, _WIDTH, _CELL.
  */
-int32_t ls_direct_sum(size_t rows, size_t columns, const int16_t *f, size_t f_length,
-                      const int16_t *g, size_t g_length, uint32_t shape, int32_t first,
-                      int32_t second, int32_t down, int32_t right, uint32_t plane, size_t row,
-                      size_t column, int64_t *sum);
+int32_t ls_direct_sum(size_t rows, size_t columns, uint32_t columns_wrap, const int16_t *f,
+                      size_t f_length, const int16_t *g, size_t g_length, uint32_t shape,
+                      int32_t first, int32_t second, int32_t down, int32_t right, uint32_t plane,
+                      size_t row, size_t column, int64_t *sum);
 
 /*
  * The cumulative table: at each cell (i, j), in place i times columns + j, the plane's sum over all
- * cells (p, q) with p <= i and q <= j. A table depends on no window; ls_read takes one.
+ * cells (p, q) with p <= i and q <= j. A table depends on no window; ls_read takes one. Where
+ * columns wrap, only g is read round the edge.
  * f and g: rows times columns levels each. table: rows times columns numbers, all of them written.
  * Refusals: LS_REFUSED_SIZE, _PICTURE, _SHIFT, _PLANE, _AREA.
  */
-int32_t ls_build(size_t rows, size_t columns, const int16_t *f, size_t f_length, const int16_t *g,
-                 size_t g_length, int32_t down, int32_t right, uint32_t plane, int64_t *table,
-                 size_t table_length);
+int32_t ls_build(size_t rows, size_t columns, uint32_t columns_wrap, const int16_t *f,
+                 size_t f_length, const int16_t *g, size_t g_length, int32_t down, int32_t right,
+                 uint32_t plane, int64_t *table, size_t table_length);
 
 /*
  * The sum over the window on the cell (row, column), from a table, to *sum. From a table as
- * ls_build left it this is what ls_direct_sum gives; from any other contents it is the same
- * formula of the table's corners, with sums that wrap at 64 bits.
+ * ls_build left it, with the same columns_wrap, this is what ls_direct_sum gives; from any other
+ * contents it is the same formula of the table's corners, with sums that wrap at 64 bits. Where
+ * columns wrap, the columns past an edge are read as a rectangle of their own.
  * table: rows times columns numbers.
- * Refusals: LS_REFUSED_SIZE, _WINDOW, _CELL, _AREA.
+ * Refusals: LS_REFUSED_SIZE, _WINDOW, _WIDTH, _CELL, _AREA.
  */
-int32_t ls_read(size_t rows, size_t columns, const int64_t *table, size_t table_length,
-                uint32_t shape, int32_t first, int32_t second, size_t row, size_t column,
-                int64_t *sum);
+int32_t ls_read(size_t rows, size_t columns, uint32_t columns_wrap, const int64_t *table,
+                size_t table_length, uint32_t shape, int32_t first, int32_t second, size_t row,
+                size_t column, int64_t *sum);
 
 /*
  * The row session: the sums of the next `request` rows, row by row, to out; *position moves on by
  * request, and *granted is request.
  *
  * The position is the session: the number of rows granted so far. Set it to 0 to begin, and hand
- * it, the work area as the last call left it, and the same pictures, window, shift and plane to
- * every call of the session. Then the rows written, call by call, are those of ls_direct_sum; a
- * refused call in between changes nothing. A session needs no end, and may be copied together
- * with its work area.
+ * it, the work area as the last call left it, and the same pictures, columns_wrap, window, shift
+ * and plane to every call of the session. Then the rows written, call by call, are those of
+ * ls_direct_sum; a refused call in between changes nothing. A session needs no end, and may be
+ * copied together with its work area.
  *
  * At position 0 the work area is not read. Afterwards it holds, for a rectangle, the sums of the
  * columns over the window's rows, and for the others the last row of window sums; other contents
@@ -181,12 +202,13 @@ int32_t ls_read(size_t rows, size_t columns, const int64_t *table, size_t table_
  *
  * f and g: rows times columns levels each. work: columns numbers. out: request times columns
  * numbers, all of them written. A request of 0 is granted and changes nothing but *granted.
- * Refusals: LS_REFUSED_SIZE, _PICTURE, _WINDOW, _SHIFT, _PLANE, _REQUEST, _AREA.
+ * Refusals: LS_REFUSED_SIZE, _PICTURE, _WINDOW, _SHIFT, _PLANE, _WIDTH, _REQUEST, _AREA.
  */
-int32_t ls_rows(size_t *position, size_t rows, size_t columns, const int16_t *f, size_t f_length,
-                const int16_t *g, size_t g_length, uint32_t shape, int32_t first, int32_t second,
-                int32_t down, int32_t right, uint32_t plane, size_t request, int64_t *work,
-                size_t work_length, int64_t *out, size_t out_length, size_t *granted);
+int32_t ls_rows(size_t *position, size_t rows, size_t columns, uint32_t columns_wrap,
+                const int16_t *f, size_t f_length, const int16_t *g, size_t g_length,
+                uint32_t shape, int32_t first, int32_t second, int32_t down, int32_t right,
+                uint32_t plane, size_t request, int64_t *work, size_t work_length, int64_t *out,
+                size_t out_length, size_t *granted);
 
 /* ---- Statistics ----------------------------------------------------------------------------- */
 
@@ -240,19 +262,21 @@ int32_t ls_voice(int64_t n, int64_t s, int64_t t, int64_t a, int64_t b, int64_t 
 /*
  * The mean of f over the window at every cell, to out.
  * f: rows times columns levels. out: rows times columns levels, all of them written.
- * Refusals: LS_REFUSED_SIZE, _PICTURE, _WINDOW, _AREA.
+ * Refusals: LS_REFUSED_SIZE, _PICTURE, _WINDOW, _WIDTH, _AREA.
  */
-int32_t ls_smooth(size_t rows, size_t columns, const int16_t *f, size_t f_length, uint32_t shape,
-                  int32_t first, int32_t second, int16_t *out, size_t out_length);
+int32_t ls_smooth(size_t rows, size_t columns, uint32_t columns_wrap, const int16_t *f,
+                  size_t f_length, uint32_t shape, int32_t first, int32_t second, int16_t *out,
+                  size_t out_length);
 
 /*
  * The first cell, row by row, whose voice is Steady, to *row and *column.
  * f and g: rows times columns levels each.
- * Refusals: LS_REFUSED_SIZE, _PICTURE, _WINDOW, _SHIFT. LS_NOWHERE where no cell is steady.
+ * Refusals: LS_REFUSED_SIZE, _PICTURE, _WINDOW, _SHIFT, _WIDTH. LS_NOWHERE where no cell is steady.
  */
-int32_t ls_steady(size_t rows, size_t columns, const int16_t *f, size_t f_length, const int16_t *g,
-                  size_t g_length, uint32_t shape, int32_t first, int32_t second, int32_t down,
-                  int32_t right, size_t *row, size_t *column);
+int32_t ls_steady(size_t rows, size_t columns, uint32_t columns_wrap, const int16_t *f,
+                  size_t f_length, const int16_t *g, size_t g_length, uint32_t shape,
+                  int32_t first, int32_t second, int32_t down, int32_t right, size_t *row,
+                  size_t *column);
 
 /*
  * What the program panel prints for a text, to the front of out; *written is the count of its
@@ -260,8 +284,9 @@ int32_t ls_steady(size_t rows, size_t columns, const int16_t *f, size_t f_length
  *
  * The text has decimal numbers divided by spaces, tabs and line feeds: rows, columns, shape, the
  * two window numbers, then the levels; at most 4,096 cells and 65,536 bytes. The output is the
- * smoothed picture, one line a row. A text that is refused is answered too: its output is the one
- * line `refused N`, where N is LS_REFUSED_TEXT, LS_REFUSED_SIZE or LS_REFUSED_WINDOW.
+ * smoothed picture, one line a row; its columns never wrap. A text that is refused is answered too:
+ * its output is the one line `refused N`, where N is LS_REFUSED_TEXT, LS_REFUSED_SIZE or
+ * LS_REFUSED_WINDOW.
  * text: any length. out: LS_PANEL_ROOM bytes or more.
  * Refusal: LS_REFUSED_AREA where out has fewer than LS_PANEL_ROOM bytes.
  */
@@ -296,6 +321,8 @@ static inline const char *ls_status_text(int32_t status)
         return "sums impossible";
     case LS_REFUSED_TEXT:
         return "a number of panel's text is malformed, missing or too many";
+    case LS_REFUSED_WIDTH:
+        return "columns wrap, and the window's widest row is above columns";
     case LS_EMPTY:
         return "no cell counts: N is 0";
     case LS_FLAT:

@@ -55,6 +55,7 @@ CONSTANTS = {
     "LS_REFUSED_AREA": [(LINES, "    Area = @,"), (CONDITIONS, "@ when not (eqb given wanted)"), (REFUSALS, " Area = @,")],
     "LS_REFUSED_SUMS": [(LINES, "    Sums = @,"), (SIX_SUMS, "(@ when impossible z)"), (REFUSALS, " Sums = @,")],
     "LS_REFUSED_TEXT": [(LINES, "    Text = @,"), (PANEL, "windowed z w None = refused @")],
+    "LS_REFUSED_WIDTH": [(LINES, "    Width = @,"), (CONDITIONS, "@ when not (fits z w)"), (REFUSALS, " Width = @,")],
     "LS_EMPTY": [(RESULTS, "const EMPTY: i32 = @;"), (BINDING, "const EMPTY: i32 = @;")],
     "LS_FLAT": [(RESULTS, "const FLAT: i32 = @;"), (BINDING, "const FLAT: i32 = @;")],
     "LS_NOWHERE": [(RESULTS, "const NOWHERE: i32 = @;"), (BINDING, "const NOWHERE: i32 = @;")],
@@ -231,6 +232,7 @@ def all_unlike(texts):
 # What is done to which text, as a pattern and what takes its place.
 DAMAGES = [
     ("a parameter dropped", HEADER, r",\s*size_t \*written", ""),
+    ("a switch dropped", HEADER, r" uint32_t columns_wrap,", ""),
     ("two parameters exchanged", HEADER, r"int32_t down,\s*int32_t right", "int32_t right, int32_t down"),
     ("another width", HEADER, r"int64_t \*sum", "int32_t *sum"),
     ("another sign", HEADER, r"uint32_t shape", "int32_t shape"),
@@ -248,9 +250,9 @@ DAMAGES = [
     ("other words for a status", HEADER, r'return "plane above 5"', 'return "plane above 6"'),
     ("a status without words", HEADER, r"    case LS_FLAT:\n.*\n", ""),
     ("another version", HEADER, r"LS_VERSION_MINOR 0", "LS_VERSION_MINOR 1"),
-    ("another version", VERSION, r"version_number 1 0 0", "version_number 1 0 1"),
-    ("another version", CARGO, r'version = "1', 'version = "2'),
-    ("another version", CHANGELOG, r"## 1", "## 2"),
+    ("another version", VERSION, r"version_number 2 0 0", "version_number 2 0 1"),
+    ("another version", CARGO, r'version = "2', 'version = "3'),
+    ("another version", CHANGELOG, r"## 2", "## 3"),
     ("a function missing", SOURCE, r'#\[unsafe\(no_mangle\)\]\s*pub extern "C" fn ls_steady', "fn ls_steady"),
     ("a function not exported", SOURCE, r"#\[unsafe\(no_mangle\)\]\s*", ""),
     ("another width", SOURCE, r"table: &\[i64\]", "table: &[i32]"),
@@ -262,6 +264,7 @@ DAMAGES = [
     ("another limit", TYPES, r"PANEL_ROOM: usize = 28672", "PANEL_ROOM: usize = 28671"),
     ("another refusal", REFUSALS, r"Cell = 6", "Cell = 7"),
     ("another refusal", LINES, r"Area = 8,", "Area = 7,"),
+    ("another refusal", CONDITIONS, r"11 when", "9 when"),
 ]
 
 

@@ -94,6 +94,12 @@ def items(text):
 
 
 @lru_cache(maxsize=None)
+def fields(text):
+    """The fields that others may name of the types that a file of code has."""
+    return set(re.findall(r"^\s+pub (?:ghost )?(\w+):", text, re.M))
+
+
+@lru_cache(maxsize=None)
 def crate_rows(text):
     """The cells of the tables that have a column Crate: a dict a row, by the names of the columns."""
     rows, heads = [], None
@@ -195,7 +201,7 @@ def wrong_words(texts, crates, code):
             there.add(path.rpartition("/")[2].removesuffix(".edit"))
     for files in code.values():
         for module, text in files.items():
-            there |= {module, *items(text)}
+            there |= {module, *items(text), *fields(text)}
     for where, text in texts.items():
         if where in documents(texts) or kind(where) == "edit":
             for name in quoted("\n".join(line for line in text.splitlines() if line.startswith("#") or kind(where) == "md")):
@@ -292,6 +298,7 @@ DAMAGES = [
     ("a crate missing", ARCHITECTURE, r"\n\| `plane_rows`[^\n]*", ""),
     ("a crate twice", ARCHITECTURE, r"(\n\| `plane_rows`[^\n]*)", r"\1\1"),
     ("a crate below one that rests on it", ARCHITECTURE, r"(\n\| `statistics`[^\n]*)(\n\| `steady_search`[^\n]*)", r"\2\1"),
+    ("a field that is not there", CHANGELOG, r"`columns_wrap`", "`columns_loop`"),
     ("a path that is not there", README, r"samples/hill\.txt", "samples/valley.txt"),
     ("a link that leads nowhere", README, r"\]\(docs/TRACE\.md\)", "](TRACE.md)"),
     ("a function that is not there", README, r"`direct_sum::direct_sum`", "`direct_sum::direct_sums`"),

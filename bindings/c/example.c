@@ -8,10 +8,10 @@ enum { ROWS = 3, COLUMNS = 3, CELLS = ROWS * COLUMNS };
 
 static const int16_t picture[CELLS] = {1, 2, 3, 4, 5, 6, 7, 8, 9};
 
-/* The sum of a plane over the 3 x 3 window on a cell; one picture alone is two that are equal, under no shift. */
+/* The sum of a plane over the 3 x 3 window on a cell, whose columns clip; one picture alone is two that are equal, under no shift. */
 static int32_t sum_at(uint32_t plane, size_t row, size_t column, int64_t *sum)
 {
-    return ls_direct_sum(ROWS, COLUMNS, picture, CELLS, picture, CELLS, LS_RECTANGLE, 1, 1, 0, 0, plane, row, column, sum);
+    return ls_direct_sum(ROWS, COLUMNS, 0, picture, CELLS, picture, CELLS, LS_RECTANGLE, 1, 1, 0, 0, plane, row, column, sum);
 }
 
 /* The sums of all rows, one row a call. */
@@ -20,7 +20,7 @@ static int32_t print_rows(void)
     size_t position = 0, granted;
     int64_t work[COLUMNS], out[COLUMNS];
     while (position < ROWS) {
-        int32_t status = ls_rows(&position, ROWS, COLUMNS, picture, CELLS, picture, CELLS, LS_RECTANGLE, 1, 1, 0, 0, LS_PLANE_F,
+        int32_t status = ls_rows(&position, ROWS, COLUMNS, 0, picture, CELLS, picture, CELLS, LS_RECTANGLE, 1, 1, 0, 0, LS_PLANE_F,
                                  1, work, COLUMNS, out, COLUMNS, &granted);
         if (status != LS_OK)
             return status;

@@ -31,15 +31,15 @@ static int32_t largest_difference(int64_t *largest)
 {
     int64_t table[CELLS], work[COLUMNS], row[COLUMNS];
     size_t position = 0, granted;
-    int32_t status = ls_build(ROWS, COLUMNS, f, CELLS, f, CELLS, 0, 0, LS_PLANE_F, table, CELLS);
+    int32_t status = ls_build(ROWS, COLUMNS, 0, f, CELLS, f, CELLS, 0, 0, LS_PLANE_F, table, CELLS);
     *largest = 0;
     while (status == LS_OK && position < ROWS) {
         size_t i = position;
-        status = ls_rows(&position, ROWS, COLUMNS, f, CELLS, f, CELLS, LS_DIAMOND, 2, 0, 0, 0, LS_PLANE_F, 1, work, COLUMNS, row,
+        status = ls_rows(&position, ROWS, COLUMNS, 0, f, CELLS, f, CELLS, LS_DIAMOND, 2, 0, 0, 0, LS_PLANE_F, 1, work, COLUMNS, row,
                          COLUMNS, &granted);
         for (size_t j = 0; status == LS_OK && j < COLUMNS; j++) {
             int64_t frozen;
-            status = ls_read(ROWS, COLUMNS, table, CELLS, LS_DIAMOND, 2, 0, i, j, &frozen);
+            status = ls_read(ROWS, COLUMNS, 0, table, CELLS, LS_DIAMOND, 2, 0, i, j, &frozen);
             int64_t difference = row[j] > frozen ? row[j] - frozen : frozen - row[j];
             if (status == LS_OK && difference > *largest)
                 *largest = difference;
@@ -53,7 +53,7 @@ static int32_t likeness(int32_t down, int32_t right, int64_t *coefficient)
 {
     int64_t sums[6];
     for (uint32_t plane = LS_PLANE_ONE; plane <= LS_PLANE_PRODUCT; plane++) {
-        int32_t status = ls_direct_sum(ROWS, COLUMNS, f, CELLS, g, CELLS, LS_RECTANGLE, 2, 2, down, right, plane, 2, 2, &sums[plane]);
+        int32_t status = ls_direct_sum(ROWS, COLUMNS, 0, f, CELLS, g, CELLS, LS_RECTANGLE, 2, 2, down, right, plane, 2, 2, &sums[plane]);
         if (status != LS_OK)
             return status;
     }

@@ -1,6 +1,6 @@
 /*
- * Calls every function of the library: document 01's own numbers, every refusal and their order. Everything that a call may write
- * is in one record, with guards between; after each call the whole record is compared with what it must be.
+ * Calls every function of the library: document 01's own numbers, columns that wrap, every refusal and their order. Everything
+ * that a call may write is in one record, with guards between; after each call the whole record is compared with what it must be.
  */
 #include "local_statistics.h"
 
@@ -77,6 +77,7 @@ static void check(int line, const char *call, int32_t status, int32_t wanted)
 
 struct inputs {
     size_t rows, columns;
+    uint32_t columns_wrap;
     const int16_t *f;
     size_t f_length;
     const int16_t *g;
@@ -87,32 +88,34 @@ struct inputs {
     size_t row, column, request, area_length, work_length;
 };
 
-/* K with itself, rectangle 1, 1, plane 1, at the centre; a request of all rows. */
-static const struct inputs legal = {ROWS, COLUMNS, k, CELLS, k, CELLS, LS_RECTANGLE, 1, 1, 0, 0, LS_PLANE_F, 1, 1, ROWS, CELLS, COLUMNS};
+/* K with itself, its columns clipped, rectangle 1, 1, plane 1, at the centre; a request of all rows. */
+static const struct inputs legal = {ROWS, COLUMNS, 0, k, CELLS, k, CELLS, LS_RECTANGLE, 1, 1, 0, 0, LS_PLANE_F, 1, 1, ROWS, CELLS, COLUMNS};
 
 typedef int32_t operation(const struct inputs *);
 
 static int32_t direct_sum(const struct inputs *x)
 {
-    return ls_direct_sum(x->rows, x->columns, x->f, x->f_length, x->g, x->g_length, x->shape, x->first, x->second, x->down, x->right,
-                         x->plane, x->row, x->column, &lent.number);
+    return ls_direct_sum(x->rows, x->columns, x->columns_wrap, x->f, x->f_length, x->g, x->g_length, x->shape, x->first, x->second,
+                         x->down, x->right, x->plane, x->row, x->column, &lent.number);
 }
 
 static int32_t build(const struct inputs *x)
 {
-    return ls_build(x->rows, x->columns, x->f, x->f_length, x->g, x->g_length, x->down, x->right, x->plane, lent.table,
-                    x->area_length);
+    return ls_build(x->rows, x->columns, x->columns_wrap, x->f, x->f_length, x->g, x->g_length, x->down, x->right, x->plane,
+                    lent.table, x->area_length);
 }
 
 static int32_t read_table(const struct inputs *x)
 {
-    return ls_read(x->rows, x->columns, lent.table, x->area_length, x->shape, x->first, x->second, x->row, x->column, &lent.number);
+    return ls_read(x->rows, x->columns, x->columns_wrap, lent.table, x->area_length, x->shape, x->first, x->second, x->row, x->column,
+                   &lent.number);
 }
 
 static int32_t rows(const struct inputs *x)
 {
-    return ls_rows(&lent.position, x->rows, x->columns, x->f, x->f_length, x->g, x->g_length, x->shape, x->first, x->second, x->down,
-                   x->right, x->plane, x->request, lent.work, x->work_length, lent.out, x->area_length, &lent.granted);
+    return ls_rows(&lent.position, x->rows, x->columns, x->columns_wrap, x->f, x->f_length, x->g, x->g_length, x->shape, x->first,
+                   x->second, x->down, x->right, x->plane, x->request, lent.work, x->work_length, lent.out, x->area_length,
+                   &lent.granted);
 }
 
 static int32_t fresh_rows(const struct inputs *x)
@@ -123,13 +126,13 @@ static int32_t fresh_rows(const struct inputs *x)
 
 static int32_t smooth(const struct inputs *x)
 {
-    return ls_smooth(x->rows, x->columns, x->f, x->f_length, x->shape, x->first, x->second, lent.smoothed, x->area_length);
+    return ls_smooth(x->rows, x->columns, x->columns_wrap, x->f, x->f_length, x->shape, x->first, x->second, lent.smoothed, x->area_length);
 }
 
 static int32_t steady(const struct inputs *x)
 {
-    return ls_steady(x->rows, x->columns, x->f, x->f_length, x->g, x->g_length, x->shape, x->first, x->second, x->down, x->right,
-                     &lent.row, &lent.column);
+    return ls_steady(x->rows, x->columns, x->columns_wrap, x->f, x->f_length, x->g, x->g_length, x->shape, x->first, x->second,
+                     x->down, x->right, &lent.row, &lent.column);
 }
 
 static int32_t panel(const char *text, size_t room)
@@ -138,6 +141,9 @@ static int32_t panel(const char *text, size_t room)
 }
 
 /* ---- Refusals ------------------------------------------------------------------------------- */
+
+/* The numbers of a call's refusals in their order, with a 0 after them. */
+#define NUMBERS(...) ((const int[]){__VA_ARGS__, 0})
 
 #define FAULT(operation, refusal, member, value) \
     do {                                         \
@@ -233,6 +239,24 @@ static void work_faults(operation *call)
     FAULT(call, LS_REFUSED_AREA, work_length, COLUMNS + 1);
 }
 
+/* The window's widest row has 5 cells and the picture 3 columns, which any number but 0 wraps; a high window with a row of 3 is taken. */
+static void width_faults(operation *call)
+{
+    static const int32_t windows[][3] = {
+        {LS_RECTANGLE, 0, 2}, {LS_RECTANGLE, 127, 127}, {LS_DIAMOND, 2, 0}, {LS_HEXAGON, 1, 1}, {LS_HEXAGON, 2, 0}, {LS_HEXAGON, 0, 2},
+    };
+    static const uint32_t wrapping[] = {1, 2, 256, UINT32_MAX};
+    for (size_t i = 0; i < sizeof windows / sizeof windows[0]; i++)
+        for (size_t j = 0; j < sizeof wrapping / sizeof wrapping[0]; j++) {
+            struct inputs x = legal;
+            x.columns_wrap = wrapping[j];
+            x.shape = (uint32_t)windows[i][0];
+            x.first = windows[i][1];
+            x.second = windows[i][2];
+            CHECK(LS_REFUSED_WIDTH, call(&x));
+        }
+}
+
 /* One fault of the number, whatever other faults there are. */
 static void spoil(struct inputs *x, int number)
 {
@@ -245,42 +269,46 @@ static void spoil(struct inputs *x, int number)
     case LS_REFUSED_CELL: x->row = SIZE_MAX; break;
     case LS_REFUSED_REQUEST: x->request = SIZE_MAX; break;
     case LS_REFUSED_AREA: x->area_length = 0; break;
+    case LS_REFUSED_WIDTH: x->columns_wrap = 1, x->second = 2; break;
     }
 }
 
-/* Of two faults the one with the lower number is the answer; `numbers` are those of the call, in order. */
-static void order(operation *call, const char *numbers)
+/* Of two faults the one whose number comes first is the answer. */
+static void order(operation *call, const int *numbers)
 {
-    for (const char *low = numbers; *low != 0; low++)
-        for (const char *high = low; *high != 0; high++) {
+    for (const int *low = numbers; *low != 0; low++)
+        for (const int *high = low; *high != 0; high++) {
             struct inputs x = legal;
-            spoil(&x, *high - '0');
-            spoil(&x, *low - '0');
-            CHECK(*low - '0', call(&x));
+            spoil(&x, *high);
+            spoil(&x, *low);
+            CHECK(*low, call(&x));
         }
 }
 
-static void faults(operation *call, const char *numbers)
+static void faults(operation *call, const int *numbers)
 {
-    static void (*const of_number[])(operation *) = {size_faults, f_faults, window_faults, shift_faults, plane_faults, cell_faults,
-                                                     request_faults, area_faults};
-    for (const char *number = numbers; *number != 0; number++)
-        of_number[*number - '1'](call);
+    static void (*const of_number[])(operation *) = {
+        [LS_REFUSED_SIZE] = size_faults,   [LS_REFUSED_PICTURE] = f_faults,       [LS_REFUSED_WINDOW] = window_faults,
+        [LS_REFUSED_SHIFT] = shift_faults, [LS_REFUSED_PLANE] = plane_faults,     [LS_REFUSED_CELL] = cell_faults,
+        [LS_REFUSED_AREA] = area_faults,   [LS_REFUSED_REQUEST] = request_faults, [LS_REFUSED_WIDTH] = width_faults,
+    };
+    for (const int *number = numbers; *number != 0; number++)
+        of_number[*number](call);
     order(call, numbers);
 }
 
 static void test_refusals(void)
 {
-    faults(direct_sum, "123456");
+    faults(direct_sum, NUMBERS(1, 2, 3, 4, 5, 11, 6));
     g_faults(direct_sum);
-    faults(build, "12458");
+    faults(build, NUMBERS(1, 2, 4, 5, 8));
     g_faults(build);
-    faults(read_table, "1368");
-    faults(fresh_rows, "1234578");
+    faults(read_table, NUMBERS(1, 3, 11, 6, 8));
+    faults(fresh_rows, NUMBERS(1, 2, 3, 4, 5, 11, 7, 8));
     g_faults(fresh_rows);
     work_faults(fresh_rows);
-    faults(smooth, "1238");
-    faults(steady, "1234");
+    faults(smooth, NUMBERS(1, 2, 3, 11, 8));
+    faults(steady, NUMBERS(1, 2, 3, 4, 11));
     g_faults(steady);
 }
 
@@ -307,6 +335,57 @@ static void check_shifted(uint32_t plane, int64_t sum)
     x.plane = plane;
     expected.number = sum;
     CHECK(LS_OK, direct_sum(&x));
+}
+
+/* Plane 1 of K, whose columns wrap. */
+static void check_looped(uint32_t shape, int32_t first, int32_t second, size_t row, size_t column, int64_t sum)
+{
+    struct inputs x = legal;
+    x.shape = shape;
+    x.first = first;
+    x.second = second;
+    x.row = row;
+    x.column = column;
+    expected.number = sum;
+    for (x.columns_wrap = 1; x.columns_wrap <= 2; x.columns_wrap++) {
+        STEP(LS_OK, direct_sum(&x));
+        lent.number = ~sum;
+    }
+    x.columns_wrap = UINT32_MAX;
+    CHECK(LS_OK, direct_sum(&x));
+}
+
+/* The whole of K, with itself moved by one row and so many columns, which wrap. */
+static void check_looped_shift(int32_t right, uint32_t plane, int64_t sum)
+{
+    struct inputs x = legal;
+    x.columns_wrap = 1;
+    x.down = 1;
+    x.right = right;
+    x.plane = plane;
+    expected.number = sum;
+    CHECK(LS_OK, direct_sum(&x));
+}
+
+static void test_loops(void)
+{
+    static const int32_t one_to_the_right[] = {1, -2, 4, 1021, -1022};
+    check_looped(LS_RECTANGLE, 1, 1, 0, 0, 21);
+    check_looped(LS_RECTANGLE, 0, 1, 2, 2, 24);
+    check_looped(LS_RECTANGLE, 127, 0, 2, 2, 18);
+    check_looped(LS_RECTANGLE, 127, 1, 2, 2, 45);
+    check_looped(LS_DIAMOND, 1, 0, 0, 0, 10);
+    check_looped(LS_DIAMOND, 1, 0, 1, 2, 27);
+    check_looped(LS_DIAMOND, 0, 0, 1, 2, 6);
+    check_looped(LS_HEXAGON, 0, 1, 1, 0, 23);
+    check_looped(LS_HEXAGON, 1, 0, 0, 2, 6);
+    for (size_t i = 0; i < sizeof one_to_the_right / sizeof one_to_the_right[0]; i++) {
+        check_looped_shift(one_to_the_right[i], LS_PLANE_ONE, 6);
+        check_looped_shift(one_to_the_right[i], LS_PLANE_F, 21);
+        check_looped_shift(one_to_the_right[i], LS_PLANE_G, 39);
+        check_looped_shift(one_to_the_right[i], LS_PLANE_PRODUCT, 148);
+    }
+    check_looped_shift(LS_MAX_RIGHT, LS_PLANE_PRODUCT, 4 + 10 + 18 + 28 + 40 + 54);
 }
 
 static void test_direct_sums(void)
@@ -350,6 +429,16 @@ static void test_tables(void)
     lent.table[1] = expected.table[1] = -1;
     lent.table[3] = expected.table[3] = -1;
     expected.number = 0;
+    STEP(LS_OK, read_table(&x));
+
+    /* the same where columns wrap, round the edge: all columns of the middle row */
+    x = legal;
+    x.first = 0;
+    x.columns_wrap = 1;
+    x.column = 2;
+    lent.table[5] = expected.table[5] = INT64_MIN;
+    lent.table[2] = expected.table[2] = 1;
+    expected.number = INT64_MAX;
     CHECK(LS_OK, read_table(&x));
 }
 
@@ -358,9 +447,9 @@ static void agree(struct inputs x)
 {
     int64_t sums[CELLS], work[COLUMNS];
     size_t position = 0, granted;
-    STEP(LS_OK, ls_rows(&position, ROWS, COLUMNS, k, CELLS, k, CELLS, x.shape, x.first, x.second, x.down, x.right, x.plane, ROWS, work,
-                        COLUMNS, sums, CELLS, &granted));
-    STEP(LS_OK, ls_build(ROWS, COLUMNS, k, CELLS, k, CELLS, x.down, x.right, x.plane, expected.table, CELLS) | build(&x));
+    STEP(LS_OK, ls_rows(&position, ROWS, COLUMNS, x.columns_wrap, k, CELLS, k, CELLS, x.shape, x.first, x.second, x.down, x.right,
+                        x.plane, ROWS, work, COLUMNS, sums, CELLS, &granted));
+    STEP(LS_OK, ls_build(ROWS, COLUMNS, x.columns_wrap, k, CELLS, k, CELLS, x.down, x.right, x.plane, expected.table, CELLS) | build(&x));
     for (x.row = 0; x.row < ROWS; x.row++)
         for (x.column = 0; x.column < COLUMNS; x.column++) {
             expected.number = sums[x.row * COLUMNS + x.column];
@@ -379,8 +468,14 @@ static void test_agreement(void)
         for (x.plane = LS_PLANE_ONE; x.plane <= LS_PLANE_PRODUCT; x.plane++)
             for (x.down = -2; x.down <= 2; x.down++) {
                 x.second = x.shape == LS_DIAMOND ? 0 : 1;
+                x.first = 1;
+                x.columns_wrap = 0;
                 x.right = -x.down / 2;
                 agree(x);
+                x.first = x.shape == LS_HEXAGON ? 0 : 1; /* its widest row fits */
+                x.columns_wrap = 1;
+                for (x.right = -7; x.right <= 7; x.right += 7)
+                    agree(x);
             }
 }
 
@@ -415,6 +510,20 @@ static void test_session(void)
     STEP(LS_REFUSED_REQUEST, rows(&x));
     x.request = x.area_length = 0;
     expected.granted = 0;
+    CHECK(LS_OK, rows(&x));
+}
+
+/* Where columns wrap, the window on each cell of a row of K holds the same columns. */
+static void test_looped_session(void)
+{
+    static const int64_t sums[CELLS] = {21, 21, 21, 45, 45, 45, 39, 39, 39};
+    static const int64_t columns_of_last[COLUMNS] = {11, 13, 15};
+    struct inputs x = legal;
+    x.columns_wrap = 1;
+    lent.position = 0;
+    expected.position = expected.granted = 3;
+    memcpy(expected.out, sums, sizeof sums);
+    memcpy(expected.work, columns_of_last, sizeof columns_of_last);
     CHECK(LS_OK, rows(&x));
 }
 
@@ -508,12 +617,17 @@ static void test_statistics(void)
 static void test_smoothing(void)
 {
     static const int16_t picture[6] = {1, 2, 6, -1, -2, -6}, means[6] = {2, 3, 4, -1, -3, -4};
+    static const int16_t looped[6] = {3, 3, 3, -3, -3, -3};
     struct inputs x = legal;
     x.rows = 2;
     x.f = picture;
     x.f_length = x.area_length = 6;
     x.first = 0;
     memcpy(expected.smoothed, means, sizeof means);
+    CHECK(LS_OK, smooth(&x));
+
+    x.columns_wrap = 1;
+    memcpy(expected.smoothed, looped, sizeof looped);
     CHECK(LS_OK, smooth(&x));
 }
 
@@ -527,6 +641,11 @@ static void test_steady(void)
     expected.row = 0;
     expected.column = 2;
     CHECK(LS_OK, steady(&x));
+    x.columns_wrap = 1;
+    expected.row = 1;
+    expected.column = 0;
+    CHECK(LS_OK, steady(&x));
+    x.columns_wrap = 0;
     x.second = 2;
     expected.row = 1;
     expected.column = 0;
@@ -569,9 +688,9 @@ static void test_version(void)
 static void test_words(void)
 {
     /* each status has words of its own, and no other number has */
-    for (int32_t status = -5; status <= 12; status++) {
+    for (int32_t status = -5; status <= 13; status++) {
         const char *words = ls_status_text(status);
-        int known = status >= LS_NOWHERE && status <= LS_REFUSED_TEXT;
+        int known = status >= LS_NOWHERE && status <= LS_REFUSED_WIDTH;
         CHECK(known, strcmp(words, ls_status_text(99)) != 0);
         for (int32_t other = LS_NOWHERE; known && other < status; other++)
             CHECK(1, strcmp(words, ls_status_text(other)) != 0);
@@ -584,9 +703,11 @@ int main(void)
     forget();
     test_refusals();
     test_direct_sums();
+    test_loops();
     test_tables();
     test_agreement();
     test_session();
+    test_looped_session();
     test_statistics();
     test_smoothing();
     test_steady();

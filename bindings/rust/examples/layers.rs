@@ -1,7 +1,7 @@
 //! Scrolled, frozen, shifted: a picture's sums row by row and from a table, and that one cancels the other; and the shift under which
 //! one picture matches another.
 
-use local_statistics::{build, read, six_sums, Cell, Coefficient, Pictures, Plane, Refusal, Session, Shift, Size, Window};
+use local_statistics::{build, read, six_sums, Border, Cell, Coefficient, Pictures, Plane, Refusal, Session, Shift, Size, Window};
 
 const SIZE: Size = Size { rows: 8, columns: 12 };
 const CELLS: usize = 8 * 12;
@@ -28,7 +28,7 @@ fn largest_difference(pictures: Pictures) -> Result<u64, Refusal> {
         let mut scrolled = [0; 12];
         session.rows(1, &mut scrolled)?;
         for (column, sum) in scrolled.iter().enumerate() {
-            let frozen = read(SIZE, &table, window, Cell { row, column })?;
+            let frozen = read(SIZE, Border::Clipped, &table, window, Cell { row, column })?;
             largest = largest.max(sum.abs_diff(frozen));
         }
     }
@@ -41,7 +41,7 @@ fn main() -> Result<(), Refusal> {
     let g = draw(4, 6);
     println!("scrolled less frozen: {} at most", largest_difference(Pictures::one(SIZE, &f))?);
     for right in 4..=6 {
-        let pictures = Pictures { size: SIZE, f: &f, g: &g, shift: Shift { down: 3, right } };
+        let pictures = Pictures { g: &g, shift: Shift { down: 3, right }, ..Pictures::one(SIZE, &f) };
         let sums = six_sums(pictures, Window::rectangle(2, 2), Cell { row: 2, column: 2 })?;
         match sums.coefficient()? {
             Coefficient::Value(c) => println!("shift (3, {right}): {c} thousandths"),

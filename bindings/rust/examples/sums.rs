@@ -1,6 +1,6 @@
 //! The sums of a window at every cell of a picture, by a call for each cell, from a table and by a session, and the mean at the centre.
 
-use local_statistics::{build, direct_sum, read, six_sums, Cell, Pictures, Plane, Refusal, Session, Size, Window};
+use local_statistics::{build, direct_sum, read, six_sums, Border, Cell, Pictures, Plane, Refusal, Session, Size, Window};
 
 fn main() -> Result<(), Refusal> {
     let levels = [1, 2, 3, 4, 5, 6, 7, 8, 9];
@@ -18,7 +18,7 @@ fn main() -> Result<(), Refusal> {
         for (column, &sum) in sums.iter().enumerate() {
             let cell = Cell { row, column };
             assert_eq!(direct_sum(pictures, window, Plane::F, cell)?, sum);
-            assert_eq!(read(size, &table, window, cell)?, sum);
+            assert_eq!(read(size, Border::Clipped, &table, window, cell)?, sum);
         }
         println!("row {row}: {sums:?}");
     }

@@ -6,7 +6,7 @@
 
 #![allow(unsafe_code)]
 
-use crate::{Cell, Pictures, Plane, Refusal, Size, Sums, Window};
+use crate::{Border, Cell, Pictures, Plane, Refusal, Size, Sums, Window};
 
 /// The statuses that are not the number of a refusal.
 pub const OK: i32 = 0;
@@ -19,17 +19,17 @@ pub const STEADY: u32 = 1;
 
 #[rustfmt::skip] // a declaration a line
 extern "C" {
-    fn ls_direct_sum(rows: usize, columns: usize, f: *const i16, f_length: usize, g: *const i16, g_length: usize, shape: u32, first: i32, second: i32, down: i32, right: i32, plane: u32, row: usize, column: usize, sum: *mut i64) -> i32;
-    fn ls_build(rows: usize, columns: usize, f: *const i16, f_length: usize, g: *const i16, g_length: usize, down: i32, right: i32, plane: u32, table: *mut i64, table_length: usize) -> i32;
-    fn ls_read(rows: usize, columns: usize, table: *const i64, table_length: usize, shape: u32, first: i32, second: i32, row: usize, column: usize, sum: *mut i64) -> i32;
-    fn ls_rows(position: *mut usize, rows: usize, columns: usize, f: *const i16, f_length: usize, g: *const i16, g_length: usize, shape: u32, first: i32, second: i32, down: i32, right: i32, plane: u32, request: usize, work: *mut i64, work_length: usize, out: *mut i64, out_length: usize, granted: *mut usize) -> i32;
+    fn ls_direct_sum(rows: usize, columns: usize, columns_wrap: u32, f: *const i16, f_length: usize, g: *const i16, g_length: usize, shape: u32, first: i32, second: i32, down: i32, right: i32, plane: u32, row: usize, column: usize, sum: *mut i64) -> i32;
+    fn ls_build(rows: usize, columns: usize, columns_wrap: u32, f: *const i16, f_length: usize, g: *const i16, g_length: usize, down: i32, right: i32, plane: u32, table: *mut i64, table_length: usize) -> i32;
+    fn ls_read(rows: usize, columns: usize, columns_wrap: u32, table: *const i64, table_length: usize, shape: u32, first: i32, second: i32, row: usize, column: usize, sum: *mut i64) -> i32;
+    fn ls_rows(position: *mut usize, rows: usize, columns: usize, columns_wrap: u32, f: *const i16, f_length: usize, g: *const i16, g_length: usize, shape: u32, first: i32, second: i32, down: i32, right: i32, plane: u32, request: usize, work: *mut i64, work_length: usize, out: *mut i64, out_length: usize, granted: *mut usize) -> i32;
     fn ls_mean(n: i64, s: i64, t: i64, a: i64, b: i64, p: i64, mean: *mut i64) -> i32;
     fn ls_variance(n: i64, s: i64, t: i64, a: i64, b: i64, p: i64, variance: *mut i64) -> i32;
     fn ls_deviation(n: i64, s: i64, t: i64, a: i64, b: i64, p: i64, deviation: *mut i64) -> i32;
     fn ls_coefficient(n: i64, s: i64, t: i64, a: i64, b: i64, p: i64, coefficient: *mut i64) -> i32;
     fn ls_voice(n: i64, s: i64, t: i64, a: i64, b: i64, p: i64, kind: *mut u32, level: *mut f32, spread: *mut f32) -> i32;
-    fn ls_smooth(rows: usize, columns: usize, f: *const i16, f_length: usize, shape: u32, first: i32, second: i32, out: *mut i16, out_length: usize) -> i32;
-    fn ls_steady(rows: usize, columns: usize, f: *const i16, f_length: usize, g: *const i16, g_length: usize, shape: u32, first: i32, second: i32, down: i32, right: i32, row: *mut usize, column: *mut usize) -> i32;
+    fn ls_smooth(rows: usize, columns: usize, columns_wrap: u32, f: *const i16, f_length: usize, shape: u32, first: i32, second: i32, out: *mut i16, out_length: usize) -> i32;
+    fn ls_steady(rows: usize, columns: usize, columns_wrap: u32, f: *const i16, f_length: usize, g: *const i16, g_length: usize, shape: u32, first: i32, second: i32, down: i32, right: i32, row: *mut usize, column: *mut usize) -> i32;
     fn ls_panel(text: *const u8, text_length: usize, out: *mut u8, out_length: usize, written: *mut usize) -> i32;
     fn ls_version() -> u32;
 }
@@ -46,12 +46,13 @@ pub fn answered(status: i32) -> Result<(), Refusal> {
 }
 
 pub fn direct_sum(pictures: Pictures, window: Window, plane: Plane, cell: Cell, sum: &mut i64) -> i32 {
-    let Pictures { size, f, g, shift } = pictures;
+    let Pictures { size, border, f, g, shift } = pictures;
     // SAFETY: f and g are slices with their own lengths, only read; sum is lent as `&mut`.
     unsafe {
         ls_direct_sum(
             size.rows,
             size.columns,
+            border as u32,
             f.as_ptr(),
             f.len(),
             g.as_ptr(),
@@ -70,12 +71,13 @@ pub fn direct_sum(pictures: Pictures, window: Window, plane: Plane, cell: Cell, 
 }
 
 pub fn build(pictures: Pictures, plane: Plane, table: &mut [i64]) -> i32 {
-    let Pictures { size, f, g, shift } = pictures;
+    let Pictures { size, border, f, g, shift } = pictures;
     // SAFETY: f and g are slices with their own lengths, only read; table is lent as `&mut`, with its own length.
     unsafe {
         ls_build(
             size.rows,
             size.columns,
+            border as u32,
             f.as_ptr(),
             f.len(),
             g.as_ptr(),
@@ -89,10 +91,22 @@ pub fn build(pictures: Pictures, plane: Plane, table: &mut [i64]) -> i32 {
     }
 }
 
-pub fn read(size: Size, table: &[i64], window: Window, cell: Cell, sum: &mut i64) -> i32 {
+pub fn read(size: Size, border: Border, table: &[i64], window: Window, cell: Cell, sum: &mut i64) -> i32 {
     // SAFETY: table is a slice with its own length, only read; sum is lent as `&mut`.
     unsafe {
-        ls_read(size.rows, size.columns, table.as_ptr(), table.len(), window.shape, window.first, window.second, cell.row, cell.column, sum)
+        ls_read(
+            size.rows,
+            size.columns,
+            border as u32,
+            table.as_ptr(),
+            table.len(),
+            window.shape,
+            window.first,
+            window.second,
+            cell.row,
+            cell.column,
+            sum,
+        )
     }
 }
 
@@ -107,7 +121,7 @@ pub fn rows(
     out: &mut [i64],
     granted: &mut usize,
 ) -> i32 {
-    let Pictures { size, f, g, shift } = pictures;
+    let Pictures { size, border, f, g, shift } = pictures;
     // SAFETY: f and g are slices with their own lengths, only read; position, work, out and granted are each lent as `&mut`, the areas
     // with their own lengths.
     unsafe {
@@ -115,6 +129,7 @@ pub fn rows(
             position,
             size.rows,
             size.columns,
+            border as u32,
             f.as_ptr(),
             f.len(),
             g.as_ptr(),
@@ -166,20 +181,32 @@ pub fn voice(sums: Sums, kind: &mut u32, level: &mut f32, spread: &mut f32) -> i
     unsafe { ls_voice(n, s, t, a, b, p, kind, level, spread) }
 }
 
-pub fn smooth(size: Size, f: &[i16], window: Window, out: &mut [i16]) -> i32 {
+pub fn smooth(size: Size, border: Border, f: &[i16], window: Window, out: &mut [i16]) -> i32 {
     // SAFETY: f is a slice with its own length, only read; out is lent as `&mut`, with its own length.
     unsafe {
-        ls_smooth(size.rows, size.columns, f.as_ptr(), f.len(), window.shape, window.first, window.second, out.as_mut_ptr(), out.len())
+        ls_smooth(
+            size.rows,
+            size.columns,
+            border as u32,
+            f.as_ptr(),
+            f.len(),
+            window.shape,
+            window.first,
+            window.second,
+            out.as_mut_ptr(),
+            out.len(),
+        )
     }
 }
 
 pub fn steady(pictures: Pictures, window: Window, cell: &mut Cell) -> i32 {
-    let Pictures { size, f, g, shift } = pictures;
+    let Pictures { size, border, f, g, shift } = pictures;
     // SAFETY: f and g are slices with their own lengths, only read; the fields of cell are two places that do not overlap, lent as `&mut`.
     unsafe {
         ls_steady(
             size.rows,
             size.columns,
+            border as u32,
             f.as_ptr(),
             f.len(),
             g.as_ptr(),

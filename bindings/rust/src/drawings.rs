@@ -1,27 +1,32 @@
 //! Smoothing, the search for the first steady cell, and panel's text.
 
 use crate::calls::{self, answered};
-use crate::{Cell, Pictures, Refusal, Size, Window};
+use crate::{Border, Cell, Pictures, Refusal, Size, Window};
 
 /// Writes the mean of f over the window at every cell to `out`, a picture of the same size.
 ///
-/// Refusals: [`Size`](Refusal::Size), [`Picture`](Refusal::Picture), [`Window`](Refusal::Window), [`Area`](Refusal::Area).
+/// Refusals: [`Size`](Refusal::Size), [`Picture`](Refusal::Picture), [`Window`](Refusal::Window), [`Width`](Refusal::Width),
+/// [`Area`](Refusal::Area).
 ///
 /// ```
-/// use local_statistics::{smooth, Size, Window};
+/// use local_statistics::{smooth, Border, Size, Window};
 ///
+/// let size = Size { rows: 2, columns: 3 };
 /// let mut out = [0; 6];
-/// smooth(Size { rows: 2, columns: 3 }, &[1, 2, 6, -1, -2, -6], Window::rectangle(0, 1), &mut out)?;
+/// smooth(size, Border::Clipped, &[1, 2, 6, -1, -2, -6], Window::rectangle(0, 1), &mut out)?;
 /// assert_eq!(out, [2, 3, 4, -1, -3, -4]);
+/// smooth(size, Border::Wrapped, &[1, 2, 6, -1, -2, -6], Window::rectangle(0, 1), &mut out)?;
+/// assert_eq!(out, [3, 3, 3, -3, -3, -3]);
 /// # Ok::<(), local_statistics::Refusal>(())
 /// ```
-pub fn smooth(size: Size, f: &[i16], window: Window, out: &mut [i16]) -> Result<(), Refusal> {
-    answered(calls::smooth(size, f, window, out))
+pub fn smooth(size: Size, border: Border, f: &[i16], window: Window, out: &mut [i16]) -> Result<(), Refusal> {
+    answered(calls::smooth(size, border, f, window, out))
 }
 
 /// The first cell, row by row, whose voice is Steady, or None where there is none.
 ///
-/// Refusals: [`Size`](Refusal::Size), [`Picture`](Refusal::Picture), [`Window`](Refusal::Window), [`Shift`](Refusal::Shift).
+/// Refusals: [`Size`](Refusal::Size), [`Picture`](Refusal::Picture), [`Window`](Refusal::Window), [`Shift`](Refusal::Shift),
+/// [`Width`](Refusal::Width).
 ///
 /// ```
 /// use local_statistics::{steady, Cell, Pictures, Size, Window};
@@ -45,7 +50,7 @@ pub fn steady(pictures: Pictures, window: Window) -> Result<Option<Cell>, Refusa
 ///
 /// The text has decimal numbers divided by spaces, tabs and line feeds: rows, columns, shape, the two window numbers, then the levels; at
 /// most [`PANEL_MAX_CELLS`](crate::PANEL_MAX_CELLS) cells and [`PANEL_MAX_BYTES`](crate::PANEL_MAX_BYTES) bytes. The output is the smoothed
-/// picture, one line a row, or for a text that panel refuses the one line `refused N`.
+/// picture, one line a row, whose columns clip, or for a text that panel refuses the one line `refused N`.
 ///
 /// Refusal: [`Area`](Refusal::Area) where `out` has fewer than [`PANEL_ROOM`](crate::PANEL_ROOM) bytes.
 ///

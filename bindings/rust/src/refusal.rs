@@ -3,8 +3,8 @@
 use core::error::Error;
 use core::fmt::{Display, Formatter, Result};
 
-/// Why a call was turned down: the conditions of document 01, with its numbers. They are tried in the order of their numbers, and the
-/// first that holds comes back. A later version may have more of them, so a `match` needs an arm for the others.
+/// Why a call was turned down: the conditions of documents 01 and 02, with their numbers. They are tried in the order of their numbers,
+/// but [`Width`](Refusal::Width) before 6, 7 and 8, and the first that holds comes back. A later version may have more of them, so a `match` needs an arm for the others.
 ///
 /// ```
 /// use local_statistics::{direct_sum, Cell, Pictures, Plane, Refusal, Size, Window};
@@ -36,9 +36,11 @@ pub enum Refusal {
     Area = 8,
     /// Sums impossible.
     Sums = 9,
+    /// Columns wrap, and the window's widest row is above columns.
+    Width = 11,
 }
 
-const ALL: [Refusal; 9] = [
+const ALL: [Refusal; 10] = [
     Refusal::Size,
     Refusal::Picture,
     Refusal::Window,
@@ -48,10 +50,11 @@ const ALL: [Refusal; 9] = [
     Refusal::Request,
     Refusal::Area,
     Refusal::Sums,
+    Refusal::Width,
 ];
 
 impl Refusal {
-    /// The refusal's number, 1 to 9.
+    /// The refusal's number, 1 to 9 or 11.
     pub const fn number(self) -> u32 {
         self as u32
     }
@@ -72,6 +75,7 @@ impl Refusal {
             Refusal::Request => "position above rows, or request above rows minus position",
             Refusal::Area => "table, work or output area of another length",
             Refusal::Sums => "sums impossible",
+            Refusal::Width => "columns wrap, and the window's widest row is above columns",
         }
     }
 }
@@ -89,10 +93,10 @@ mod tests {
     use super::Refusal;
 
     #[test]
-    fn numbers_1_to_9_are_refusals_and_no_others() {
-        for number in -4..=11 {
+    fn numbers_1_to_9_and_11_are_refusals_and_no_others() {
+        for number in -4..=13 {
             let found = Refusal::of_number(number).map(Refusal::number);
-            assert_eq!(found, (1..=9).contains(&number).then_some(number as u32));
+            assert_eq!(found, ((1..=9).contains(&number) || number == 11).then_some(number as u32));
         }
     }
 }

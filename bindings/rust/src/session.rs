@@ -85,7 +85,7 @@ impl<'a> Session<'a> {
     /// granted count, which is the request. A request of 0 changes nothing.
     ///
     /// Refusals: [`Size`](Refusal::Size), [`Picture`](Refusal::Picture), [`Window`](Refusal::Window), [`Shift`](Refusal::Shift),
-    /// [`Plane`](Refusal::Plane), [`Request`](Refusal::Request), [`Area`](Refusal::Area). A refused call changes nothing, and the
+    /// [`Plane`](Refusal::Plane), [`Width`](Refusal::Width), [`Request`](Refusal::Request), [`Area`](Refusal::Area). A refused call changes nothing, and the
     /// session goes on as if it had not been made.
     pub fn rows(&mut self, request: usize, out: &mut [i64]) -> Result<usize, Refusal> {
         let mut granted = 0;

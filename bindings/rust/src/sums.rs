@@ -1,12 +1,12 @@
 //! Window sums: directly, and from a cumulative table.
 
 use crate::calls::{self, answered};
-use crate::{Cell, Pictures, Plane, Refusal, Size, Sums, Window};
+use crate::{Border, Cell, Pictures, Plane, Refusal, Size, Sums, Window};
 
 /// The sum of the plane over the window on the cell.
 ///
 /// Refusals: [`Size`](Refusal::Size), [`Picture`](Refusal::Picture), [`Window`](Refusal::Window), [`Shift`](Refusal::Shift),
-/// [`Plane`](Refusal::Plane), [`Cell`](Refusal::Cell).
+/// [`Plane`](Refusal::Plane), [`Width`](Refusal::Width), [`Cell`](Refusal::Cell).
 ///
 /// ```
 /// use local_statistics::{direct_sum, Cell, Pictures, Plane, Size, Window};
@@ -67,20 +67,24 @@ pub fn build(pictures: Pictures, plane: Plane, table: &mut [i64]) -> Result<(), 
     answered(calls::build(pictures, plane, table))
 }
 
-/// The sum over the window on the cell, from a table of a picture of this size. From a table that [`build`] filled it is the
-/// [`direct_sum`]; from other contents it is the same formula of the table's corners, with sums that wrap at 64 bits.
+/// The sum over the window on the cell, from a table of a picture of this size and border. From a table that [`build`] filled with the
+/// same border it is the [`direct_sum`]; from other contents it is the same formula of the table's corners, with sums that wrap at 64
+/// bits.
 ///
-/// Refusals: [`Size`](Refusal::Size), [`Window`](Refusal::Window), [`Cell`](Refusal::Cell), [`Area`](Refusal::Area).
+/// Refusals: [`Size`](Refusal::Size), [`Window`](Refusal::Window), [`Width`](Refusal::Width), [`Cell`](Refusal::Cell),
+/// [`Area`](Refusal::Area).
 ///
 /// ```
-/// use local_statistics::{read, Cell, Size, Window};
+/// use local_statistics::{read, Border, Cell, Refusal, Size, Window};
 ///
-/// let size = Size { rows: 2, columns: 2 };
-/// let sum = read(size, &[1, 3, 4, 10], Window::rectangle(0, 1), Cell { row: 1, column: 0 });
-/// assert_eq!(sum, Ok(7));
+/// let size = Size { rows: 2, columns: 3 };
+/// let sum = |border, b| read(size, border, &[1, 3, 6, 5, 12, 21], Window::rectangle(0, b), Cell { row: 1, column: 0 });
+/// assert_eq!(sum(Border::Clipped, 1), Ok(9));
+/// assert_eq!(sum(Border::Wrapped, 1), Ok(15));
+/// assert_eq!(sum(Border::Wrapped, 2), Err(Refusal::Width));
 /// ```
-pub fn read(size: Size, table: &[i64], window: Window, cell: Cell) -> Result<i64, Refusal> {
+pub fn read(size: Size, border: Border, table: &[i64], window: Window, cell: Cell) -> Result<i64, Refusal> {
     let mut sum = 0;
-    answered(calls::read(size, table, window, cell, &mut sum))?;
+    answered(calls::read(size, border, table, window, cell, &mut sum))?;
     Ok(sum)
 }

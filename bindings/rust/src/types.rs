@@ -28,6 +28,27 @@ pub struct Size {
     pub columns: usize,
 }
 
+/// What is past the first and the last column of a picture. Rows clip always: nothing is above the first one or below the last one.
+///
+/// ```
+/// use local_statistics::{direct_sum, Border, Cell, Pictures, Plane, Size, Window};
+///
+/// let clipped = Pictures::one(Size { rows: 1, columns: 4 }, &[1, 20, 300, 4000]);
+/// let wrapped = Pictures { border: Border::Wrapped, ..clipped };
+/// let sum = |pictures| direct_sum(pictures, Window::rectangle(0, 1), Plane::F, Cell { row: 0, column: 0 });
+/// assert_eq!(sum(clipped), Ok(21));
+/// assert_eq!(sum(wrapped), Ok(4021));
+/// ```
+#[derive(Clone, Copy, Debug, Default, PartialEq, Eq, Hash)]
+pub enum Border {
+    /// Nothing: the columns clip.
+    #[default]
+    Clipped = 0,
+    /// The columns at the other end, as if the last one were joined to the first: a looping picture. A window's widest row must then fit
+    /// the columns, or the call is turned down with [`Refusal::Width`](crate::Refusal::Width).
+    Wrapped = 1,
+}
+
 /// A cell of a picture; rows and columns count from 0.
 #[derive(Clone, Copy, Debug, PartialEq, Eq, Hash)]
 pub struct Cell {
@@ -37,7 +58,8 @@ pub struct Cell {
     pub column: usize,
 }
 
-/// A window: the number of its shape and two numbers. On a cell (i, j) it holds the cells (i+p, j+q) that its shape says.
+/// A window: the number of its shape and two numbers. On a cell (i, j) it holds the cells (i+p, j+q) that its shape says; where columns
+/// wrap, j+q is taken mod columns.
 ///
 /// ```
 /// use local_statistics::Window;
@@ -108,11 +130,14 @@ impl Plane {
     pub const PRODUCT: Plane = Plane(5);
 }
 
-/// Two pictures of one size under a shift. A cell (m, n) counts when it and (m+down, n+right) are both inside the picture.
+/// Two pictures of one size under a shift. A cell (m, n) counts when it and (m+down, n+right) are both inside the picture; where columns
+/// wrap, g is read at column (n+right) mod columns, which always is.
 #[derive(Clone, Copy, Debug, PartialEq, Eq)]
 pub struct Pictures<'a> {
     /// The size of each.
     pub size: Size,
+    /// What is past their first and last column.
+    pub border: Border,
     /// The levels of f, row by row: rows times columns.
     pub f: &'a [i16],
     /// The levels of g, row by row: rows times columns.
@@ -122,15 +147,16 @@ pub struct Pictures<'a> {
 }
 
 impl<'a> Pictures<'a> {
-    /// One picture alone: g is f, and the shift is (0, 0).
+    /// One picture alone, whose columns clip: g is f, and the shift is (0, 0).
     ///
     /// ```
-    /// use local_statistics::{Pictures, Shift, Size};
+    /// use local_statistics::{Border, Pictures, Shift, Size};
     ///
     /// let one = Pictures::one(Size { rows: 1, columns: 2 }, &[7, 8]);
     /// assert_eq!((one.g, one.shift), (one.f, Shift { down: 0, right: 0 }));
+    /// assert_eq!(one.border, Border::Clipped);
     /// ```
     pub const fn one(size: Size, f: &'a [i16]) -> Pictures<'a> {
-        Pictures { size, f, g: f, shift: Shift { down: 0, right: 0 } }
+        Pictures { size, border: Border::Clipped, f, g: f, shift: Shift { down: 0, right: 0 } }
     }
 }

@@ -16,7 +16,7 @@ fn of_k(window: Window, cell: Cell) -> Sums {
 
 /// The six sums of two rows of levels, under a window that holds them all.
 fn of_rows(f: &[i16], g: &[i16]) -> Sums {
-    let pictures = Pictures { size: Size { rows: 1, columns: f.len() }, f, g, shift: Shift::default() };
+    let pictures = Pictures { g, ..Pictures::one(Size { rows: 1, columns: f.len() }, f) };
     six_sums(pictures, Window::rectangle(0, MAX_WINDOW), CORNER).unwrap()
 }
 

@@ -1,12 +1,11 @@
 -- Demand 3, proved at the level of the definitions.
 -- Assumes nothing.
 use mathlib.Core.Path.{◌≡◌, refl, sym, ◌∙◌, ap, ap₂, subst}
-use Prim.Native.Nat.{ℕ, suc, ◌+◌, ◌-◌, ◌*◌, ◌≤◌, ◌<◌}
+use Prim.Native.Nat.{ℕ, suc, ◌+◌, ◌*◌, ◌≤◌, ◌<◌}
 use native.Mathlib.Omega.{arith}
-use mathlib.Core.Bool.{Bool, true, false, ◌||◌}
+use mathlib.Core.Bool.{false}
 use mathlib.Core.List.{List, [], ◌∷◌, ◌++◌}
 use mathlib.Core.Option.{Option, none, some}
-use lib.Dec.{ltb}
 use lib.ListN.{length, get_or}
 use lib.IntN.{ℤ, pos}
 use Rattle.numbers.specs.Grid.{tabulate, grid, rows_from}
@@ -15,14 +14,14 @@ use Rattle.spec_picture.specs.Refusal.{Filling, answered, refusal, outcome, ◌w
 use Rattle.spec_picture.specs.Window.{Shape, Slanted, rectangle, slanted, shape_of}
 use Rattle.spec_picture.specs.Frame.{cells}
 use Rattle.spec_picture.specs.Picture.{Levels, Inputs, plane_at}
-use Rattle.spec_picture.specs.Conditions.{accepted, input_checks, check7, check8}
+use Rattle.spec_picture.specs.Conditions.{accepted}
 use Rattle.spec_picture.specs.Direct.{window_sum, direct_sum}
-use Rattle.spec_picture.proofs.Refusals.{InLimits, in-limits, accepted-has, direct-answers, pass_all, none-head, outcome-none, pass, no-checks}
+use Rattle.spec_picture.proofs.Refusals.{InLimits, in-limits, accepted-has, direct-answers, outcome-none, pass, no-checks}
 use Rattle.spec_picture.proofs.Planes.{plane-bound}
 use Rattle.spec_table.specs.Table.{build_call, read_call}
 use Rattle.spec_table.proofs.Reading.{build-fills, read-answers}
 use Rattle.spec_rows.specs.Rows.{RowOutcome, column_sum, work_value, row_call, row_result, row_checks}
-use Rattle.spec_rows.proofs.Calls.{row-answers}
+use Rattle.spec_rows.proofs.Calls.{row-answers, granted-has}
 use Rattle.spec_rows.proofs.Steps.{Ready, strip-done}
 use Rattle.spec_statistics.specs.declared.Sums.{Sums}
 use Rattle.spec_statistics.specs.SixSums.{six_sums, impossible, unless9}
@@ -35,17 +34,6 @@ use Rattle.agreement.specs.Agreement.{Call, Progress, fresh, count_of, rows_of, 
 
 answers : {A : Type 0} (z : Sums) (r : A) → impossible z ≡ false → unless9 z r ≡ answered r
 answers z r e = outcome-none (refusal ((9 when impossible z) ∷ [])) r (pass 9 (impossible z) [] e ∙ no-checks)
-
--- what 7 leaves: the request fits below the last row
-fits_below : (rows position request : ℕ) → (ltb rows position || ltb (rows - position) request) ≡ false → position + request ≤ rows
-fits_below rows position request e = go (ltb rows position) refl e
-  where
-    go : (b : Bool) → ltb rows position ≡ b → (b || ltb (rows - position) request) ≡ false → position + request ≤ rows
-    go true eb e = absurd (mathlib.Core.Bool.true≢false e)
-    go false eb e =
-        let h : position ≤ rows = lib.Dec.nltb→le rows position (rw eb tt) in
-        let k : request ≤ rows - position = lib.Dec.nltb→le (rows - position) request (rw e tt) in
-        omega arith
 
 module _ (x : Inputs) (ok : accepted x) (hf : Levels x.source.f) (hg : Levels x.source.g) where
   lim : InLimits x.source.frame
@@ -80,10 +68,7 @@ module _ (x : Inputs) (ok : accepted x) (hf : Levels x.source.f) (hg : Levels x.
       left v r = record { position = r.position; work = r.work; granted = s.granted + count_of v c; joined = s.joined ++ rows_of v r }
 
       room : refusal (row_checks x s.granted c.request s.work c.output) ≡ none → s.granted + c.request ≤ x.source.frame.rows
-      room e =
-          let rest = check8 x.source.frame.columns (length s.work) ∷ check8 (c.request * x.source.frame.columns) (length c.output) ∷ [] in
-          let e7 = sym (pass_all (input_checks x) (check7 x.source.frame s.granted c.request ∷ rest) ok) ∙ e in
-          fits_below x.source.frame.rows s.granted c.request (none-head 7 (ltb x.source.frame.rows s.granted || ltb (x.source.frame.rows - s.granted) c.request) rest e7)
+      room e = (granted-has x s.granted c.request s.work c.output e).within
 
       after_none : refusal (row_checks x s.granted c.request s.work c.output) ≡ none → Good (left none (row_result x none s.granted c.request s.work c.output))
       after_none e =
@@ -129,16 +114,16 @@ module _ (x : Inputs) (ok : accepted x) (hf : Levels x.source.f) (hg : Levels x.
     work_slanted = λ i j o e hj is. number i j e hj ∙ ap (λ (t : Shape). work_value x.source.frame P t i j) is ∙ of-slanted i j o is;
     next_answer = λ c. row-answers x s.position c.request s.work c.output ∙ ap (λ (p : ℕ). outcome (refusal (row_checks x p c.request s.work c.output)) c.request) g.position_is;
     table_direct = λ i j hi hj. reading i j hi hj ∙ sym (direct-answers x i j ok hi hj);
-    mean_answers = λ i j hi hj. answers (six_sums x i j) (unless_empty (six_sums x i j) (mean (six_sums x i j))) (never i j);
-    variance_answers = λ i j hi hj. answers (six_sums x i j) (unless_empty (six_sums x i j) (variance (six_sums x i j))) (never i j);
-    deviation_answers = λ i j hi hj. answers (six_sums x i j) (unless_empty (six_sums x i j) (pos (deviation (six_sums x i j)))) (never i j);
-    voice_answers = λ i j hi hj. answers (six_sums x i j) (voice (six_sums x i j)) (never i j);
-    coefficient_answers = λ i j hi hj. answers (six_sums x i j) (coefficient (six_sums x i j)) (never i j);
+    mean_answers = λ i j hi hj. answers (six_sums x i j) (unless_empty (six_sums x i j) (mean (six_sums x i j))) (never i j hj);
+    variance_answers = λ i j hi hj. answers (six_sums x i j) (unless_empty (six_sums x i j) (variance (six_sums x i j))) (never i j hj);
+    deviation_answers = λ i j hi hj. answers (six_sums x i j) (unless_empty (six_sums x i j) (pos (deviation (six_sums x i j)))) (never i j hj);
+    voice_answers = λ i j hi hj. answers (six_sums x i j) (voice (six_sums x i j)) (never i j hj);
+    coefficient_answers = λ i j hi hj. answers (six_sums x i j) (coefficient (six_sums x i j)) (never i j hj);
     coefficient_range = λ i j c hi hj h. coefficient_range (six_sums x i j) c h;
   }
     where
-      never : (i j : ℕ) → impossible (six_sums x i j) ≡ false
-      never i j = sums-possible x hf hg (accepted-has x ok).window i j
+      never : (i j : ℕ) → j < x.source.frame.columns → impossible (six_sums x i j) ≡ false
+      never i j hj = sums-possible x hf hg (accepted-has x ok).window (accepted-has x ok).fitting i j hj
 
       -- the work area after row i
       held : (i : ℕ) → s.granted ≡ suc i → s.work ≡ tabulate x.source.frame.columns (work_value x.source.frame P shape i)

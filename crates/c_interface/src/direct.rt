@@ -1,20 +1,22 @@
 // The C interface to the direct sum.
 
-ghost use Rattle.spec_picture.specs.Frame.{frame};
 ghost use Rattle.spec_picture.specs.Window.{window};
 ghost use Rattle.spec_picture.specs.Picture.{shift, inputs};
 ghost use Rattle.spec_picture.specs.Direct.{direct_call};
+ghost use Rattle.spec_c.specs.Frame.{frame_from};
 ghost use Rattle.spec_c.specs.CResult.{with_value, c_result};
 ghost use Rattle.spec_c.specs.Leaves.{CallLeaves};
 
+use crate::frames;
 use crate::results::hand_back;
-use local_statistics::{Cell, Frame, Inputs, Shift, Source, Window, direct_sum};
+use local_statistics::{Cell, Inputs, Shift, Source, Window, direct_sum};
 
 // `direct_sum::direct_sum`: the sum of a plane over the window on a cell.
 #[unsafe(no_mangle)]
 pub extern "C" fn ls_direct_sum(
     rows: usize,
     columns: usize,
+    columns_wrap: u32,
     f: &[i16],
     g: &[i16],
     shape: u32,
@@ -27,11 +29,11 @@ pub extern "C" fn ls_direct_sum(
     column: usize,
     sum: &mut i64,
 ) -> i32
-    ensures { CallLeaves (c_result with_value (direct_call (inputs (frame rows columns) f.now g.now (window shape first second) (shift down right) plane) row column)) sum.old result sum.new }
+    ensures { CallLeaves (c_result with_value (direct_call (inputs (frame_from rows columns columns_wrap) f.now g.now (window shape first second) (shift down right) plane) row column)) sum.old result sum.new }
 {
     let inputs = Inputs {
         source: Source {
-            frame: Frame { rows, columns },
+            frame: frames::frame_from(rows, columns, columns_wrap),
             f,
             g,
             shift: Shift { down, right },

@@ -5,11 +5,12 @@
 // null, not even that of an empty slice; each is aligned, and points to as much memory as its type and its length say; and what the call
 // may write overlaps nothing else that it is lent.
 //
-// The status is 0 where the call was answered; else the number of its refusal, 1 to 9, or that of an answer with no value. At every status
+// The status is 0 where the call was answered; else the number of its refusal, 1 to 9 or 11, or that of an answer with no value. At every status
 // but 0 nothing is written: areas, results and position keep their bytes. (A text that panel refuses is answered: the line that says so is
 // what panel prints.)
 #![tactic(auto)]
 
+mod frames; // frames.rt: how a call gives the frame of a picture
 mod results; // results.rt: how an answer becomes a status and a value
 pub mod direct; // direct.rt: the direct sum
 pub mod tables; // tables.rt: the cumulative table

@@ -1,13 +1,14 @@
 // The C interface to the row session.
 
-ghost use Rattle.spec_picture.specs.Frame.{frame};
 ghost use Rattle.spec_picture.specs.Window.{window};
 ghost use Rattle.spec_picture.specs.Picture.{shift, inputs};
 ghost use Rattle.spec_rows.specs.Rows.{row_call};
+ghost use Rattle.spec_c.specs.Frame.{frame_from};
 ghost use Rattle.spec_c.specs.Leaves.{RowCallLeaves};
 
+use crate::frames;
 use crate::results::hand_back;
-use local_statistics::{Frame, Inputs, Shift, Source, Window, rows_plain};
+use local_statistics::{Inputs, Shift, Source, Window, rows_plain};
 
 // `row_session::rows_plain`: the sums of the next rows of a session, which in C is its position alone.
 #[unsafe(no_mangle)]
@@ -15,6 +16,7 @@ pub extern "C" fn ls_rows(
     position: &mut usize,
     rows: usize,
     columns: usize,
+    columns_wrap: u32,
     f: &[i16],
     g: &[i16],
     shape: u32,
@@ -28,11 +30,11 @@ pub extern "C" fn ls_rows(
     out: &mut [i64],
     granted: &mut usize,
 ) -> i32
-    ensures { RowCallLeaves (row_call (inputs (frame rows columns) f.now g.now (window shape first second) (shift down right) plane) position.old request work.old out.old) granted.old result granted.new position.new work.new out.new }
+    ensures { RowCallLeaves (row_call (inputs (frame_from rows columns columns_wrap) f.now g.now (window shape first second) (shift down right) plane) position.old request work.old out.old) granted.old result granted.new position.new work.new out.new }
 {
     let inputs = Inputs {
         source: Source {
-            frame: Frame { rows, columns },
+            frame: frames::frame_from(rows, columns, columns_wrap),
             f,
             g,
             shift: Shift { down, right },

@@ -1,20 +1,22 @@
 // The C interface to the search for the first steady cell.
 
-ghost use Rattle.spec_picture.specs.Frame.{frame, cell};
+ghost use Rattle.spec_picture.specs.Frame.{cell};
 ghost use Rattle.spec_picture.specs.Window.{window};
 ghost use Rattle.spec_picture.specs.Picture.{shift};
 ghost use Rattle.spec_smoothing.specs.Steady.{steady_call};
+ghost use Rattle.spec_c.specs.Frame.{frame_from};
 ghost use Rattle.spec_c.specs.CResult.{c_result, of_cell};
 ghost use Rattle.spec_c.specs.Leaves.{CallLeaves};
 
-use crate::results;
-use local_statistics::{Frame, Shift, Window, steady};
+use crate::{frames, results};
+use local_statistics::{Shift, Window, steady};
 
 // `steady_search::steady`: the first steady cell in row order.
 #[unsafe(no_mangle)]
 pub extern "C" fn ls_steady(
     rows: usize,
     columns: usize,
+    columns_wrap: u32,
     f: &[i16],
     g: &[i16],
     shape: u32,
@@ -25,9 +27,9 @@ pub extern "C" fn ls_steady(
     row: &mut usize,
     column: &mut usize,
 ) -> i32
-    ensures { CallLeaves (c_result of_cell (steady_call (frame rows columns) f.now g.now (window shape first second) (shift down right))) (cell row.old column.old) result (cell row.new column.new) }
+    ensures { CallLeaves (c_result of_cell (steady_call (frame_from rows columns columns_wrap) f.now g.now (window shape first second) (shift down right))) (cell row.old column.old) result (cell row.new column.new) }
 {
-    let frame = Frame { rows, columns };
+    let frame = frames::frame_from(rows, columns, columns_wrap);
     let window = Window {
         shape,
         first,

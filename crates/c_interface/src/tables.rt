@@ -1,21 +1,23 @@
 // The C interface to the cumulative table.
 
 ghost use Rattle.std.specs.Prelude.{◌≡◌};
-ghost use Rattle.spec_picture.specs.Frame.{frame};
 ghost use Rattle.spec_picture.specs.Window.{window};
 ghost use Rattle.spec_picture.specs.Picture.{shift, source};
 ghost use Rattle.spec_table.specs.Table.{build_call, read_call};
+ghost use Rattle.spec_c.specs.Frame.{frame_from};
 ghost use Rattle.spec_c.specs.CResult.{with_value, status, c_result};
 ghost use Rattle.spec_c.specs.Leaves.{CallLeaves};
 
+use crate::frames;
 use crate::results::{done, hand_back};
-use local_statistics::{Cell, Frame, Shift, Source, Window, build, read};
+use local_statistics::{Cell, Shift, Source, Window, build, read};
 
 // `table::build`: fills the area with the cumulative table of a plane.
 #[unsafe(no_mangle)]
 pub extern "C" fn ls_build(
     rows: usize,
     columns: usize,
+    columns_wrap: u32,
     f: &[i16],
     g: &[i16],
     down: i32,
@@ -23,11 +25,11 @@ pub extern "C" fn ls_build(
     plane: u32,
     table: &mut [i64],
 ) -> i32
-    ensures status { result ≡ status (c_result with_value (build_call (source (frame rows columns) f.now g.now (shift down right) plane) table.old).answer) }
-    ensures area { table.new ≡ (build_call (source (frame rows columns) f.now g.now (shift down right) plane) table.old).area }
+    ensures status { result ≡ status (c_result with_value (build_call (source (frame_from rows columns columns_wrap) f.now g.now (shift down right) plane) table.old).answer) }
+    ensures area { table.new ≡ (build_call (source (frame_from rows columns columns_wrap) f.now g.now (shift down right) plane) table.old).area }
 {
     let source = Source {
-        frame: Frame { rows, columns },
+        frame: frames::frame_from(rows, columns, columns_wrap),
         f,
         g,
         shift: Shift { down, right },
@@ -41,6 +43,7 @@ pub extern "C" fn ls_build(
 pub extern "C" fn ls_read(
     rows: usize,
     columns: usize,
+    columns_wrap: u32,
     table: &[i64],
     shape: u32,
     first: i32,
@@ -49,9 +52,9 @@ pub extern "C" fn ls_read(
     column: usize,
     sum: &mut i64,
 ) -> i32
-    ensures { CallLeaves (c_result with_value (read_call (frame rows columns) table.now (window shape first second) row column)) sum.old result sum.new }
+    ensures { CallLeaves (c_result with_value (read_call (frame_from rows columns columns_wrap) table.now (window shape first second) row column)) sum.old result sum.new }
 {
-    let frame = Frame { rows, columns };
+    let frame = frames::frame_from(rows, columns, columns_wrap);
     let window = Window {
         shape,
         first,

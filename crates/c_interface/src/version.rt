@@ -8,5 +8,5 @@ ghost use Rattle.spec_c.specs.Version.{version};
 pub extern "C" fn ls_version() -> u32
     ensures { result ≡ version }
 {
-    1000000
+    2000000
 }

@@ -1,12 +1,14 @@
-// The limits of a window's numbers and of a shift as tests.
+// The limits of a window's numbers and of a shift as tests, and whether a window fits the columns where they wrap.
 #![tactic(auto, unfolding(spec_picture::specs::Window::window_legal, spec_picture::specs::Window::rectangle_legal, spec_picture::specs::Window::diamond_legal, spec_picture::specs::Window::hexagon_legal, spec_picture::specs::Picture::shift_legal))]
 
 ghost use Rattle.std.specs.Prelude.{◌≡◌};
-ghost use Rattle.spec_picture.specs.Window.{window, between, rectangle_legal, diamond_legal, hexagon_legal, window_legal};
+ghost use Rattle.spec_picture.specs.Window.{window, between, rectangle_legal, diamond_legal, hexagon_legal, window_legal, fits};
 ghost use Rattle.spec_picture.specs.Shape.{shape_number};
+ghost use Rattle.spec_picture.specs.Checked.{given};
 ghost use Rattle.spec_picture.specs.Picture.{shift_legal};
 
-use spec_picture::{Shape, Shift};
+use spec_picture::{CheckedWindow, Frame, Shape, Shift};
+use windows::shape;
 
 // low ≤ x ≤ high. std's method of a range: it has a name here, so that its promise in the words of the definitions is stated once.
 pub fn is_between(low: i32, high: i32, x: i32) -> bool
@@ -42,6 +44,13 @@ pub fn numbers_legal(shape: Shape, first: i32, second: i32) -> bool
         Shape::Diamond => diamond_legal(first, second),
         Shape::Hexagon => hexagon_legal(first, second),
     }
+}
+
+// "its widest row must fit the columns" where they wrap.
+pub fn window_fits(frame: Frame, window: CheckedWindow) -> bool
+    ensures { result ≡ fits frame (given window) }
+{
+    !(frame.columns_wrap && frame.columns < 2 * shape::width(window) + 1)
 }
 
 // The shift is within limits.

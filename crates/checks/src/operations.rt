@@ -16,7 +16,7 @@ ghost use Rattle.spec_smoothing.specs.Steady.{steady_checks};
 ghost use Rattle.checks.specs.Reading.{reading, reading_of};
 
 use crate::legal_frames::{cell_inside, frame_legal, is_full};
-use crate::legal_windows::shift_legal;
+use crate::legal_windows::{shift_legal, window_fits};
 use crate::{check_pictures, check_window, require, with_shift};
 use spec_picture::{
     Cell, CheckedInputs, CheckedSource, CheckedTable, CheckedWindow, Frame, Inputs, Plane, Refusal,
@@ -32,6 +32,7 @@ fn check_inputs<'a>(inputs: &Inputs<'a>) -> Result<CheckedInputs<'a>, Refusal>
     let window = check_window(inputs.window)?; // 3
     require(shift_legal(given.shift), Refusal::Shift)?; // 4
     let plane = Plane::try_from(given.plane)?; // 5
+    require(window_fits(given.frame, window), Refusal::Width)?; // 11
     let source = with_shift(&pictures, given.shift, plane);
     Ok(CheckedInputs { source, window })
 }
@@ -40,7 +41,7 @@ fn check_inputs<'a>(inputs: &Inputs<'a>) -> Result<CheckedInputs<'a>, Refusal>
 pub fn check_direct<'a>(inputs: &Inputs<'a>, cell: Cell) -> Result<CheckedInputs<'a>, Refusal>
     ensures { outcome_by checked_inputs result ≡ outcome (refusal (direct_checks (inputs_of inputs.now) cell.row cell.column)) (inputs_of inputs.now) }
 {
-    let checked = check_inputs(inputs)?; // 1 to 5
+    let checked = check_inputs(inputs)?; // 1 to 5, 11
     require(cell_inside(inputs.source.frame, cell), Refusal::Cell)?; // 6
     Ok(checked)
 }
@@ -67,6 +68,7 @@ pub fn check_read<'a>(
 {
     require(frame_legal(frame), Refusal::Size)?; // 1
     let window = check_window(window)?; // 3
+    require(window_fits(frame, window), Refusal::Width)?; // 11
     require(cell_inside(frame, cell), Refusal::Cell)?; // 6
     require(is_full(frame, numbers.len()), Refusal::Area)?; // 8
     Ok((CheckedTable { frame, numbers }, window))
@@ -82,7 +84,7 @@ pub fn check_rows<'a>(
 ) -> Result<CheckedInputs<'a>, Refusal>
     ensures { outcome_by checked_inputs result ≡ outcome (refusal (row_checks (inputs_of inputs.now) position request work.now out.now)) (inputs_of inputs.now) }
 {
-    let checked = check_inputs(inputs)?; // 1 to 5
+    let checked = check_inputs(inputs)?; // 1 to 5, 11
     let rows = inputs.source.frame.rows;
     let columns = inputs.source.frame.columns;
     require(position <= rows, Refusal::Position)?; // 7
@@ -104,6 +106,7 @@ pub fn check_smooth<'a>(
 {
     let pictures = check_pictures(frame, f, f)?; // 1, 2
     let window = check_window(window)?; // 3
+    require(window_fits(frame, window), Refusal::Width)?; // 11
     require(is_full(frame, out.len()), Refusal::Area)?; // 8
     let source = with_shift(&pictures, Shift { down: 0, right: 0 }, Plane::One);
     Ok(CheckedInputs { source, window })
@@ -122,6 +125,7 @@ pub fn check_steady<'a>(
     let pictures = check_pictures(frame, f, g)?; // 1, 2
     let window = check_window(window)?; // 3
     require(shift_legal(shift), Refusal::Shift)?; // 4
+    require(window_fits(frame, window), Refusal::Width)?; // 11
     let source = with_shift(&pictures, shift, Plane::One);
     Ok(CheckedInputs { source, window })
 }

@@ -1,2 +1,3 @@
+pub mod NearRows
 pub mod Totals
 pub mod WindowRows

@@ -17,6 +17,11 @@ pub and_both : (a b : Bool) → T a → T b → T (a && b)
 and_both true b s t = t
 and_both false b s t = absurd s
 
+-- ---- one of two tests
+pub or_right : (a b : Bool) → T b → T (a || b)
+or_right true b t = tt
+or_right false b t = t
+
 -- ---- neither of two tests
 pub or-false-left : (a b : Bool) → (a || b) ≡ false → a ≡ false
 or-false-left true b e = e

@@ -104,10 +104,9 @@ sfits-wrap z = sfits-spelled-by (residue z) (residue-lt z) (order (residue z) (2
 pub wrap-add-right : (x y : ℤ) → wrap (x +ℤ wrap y) ≡ wrap (x +ℤ y)
 wrap-add-right x y = ap wrap (+ℤ_comm x (wrap y)) ∙ wrap-add y x ∙ ap wrap (+ℤ_comm y x)
 
--- x in and y out, at once or one after the other
-pub wrap-both : (s x y : ℤ) → wrap (s +ℤ wrap (x -ℤ y)) ≡ wrap (wrap (s +ℤ x) -ℤ y)
-wrap-both s x y =
-    wrap-add-right s (x -ℤ y) ∙ ap wrap (sym (+ℤ_assoc s x (neg_ℤ y))) ∙ sym (wrap-sub (s +ℤ x) y)
+-- the sum of two that are wrapped
+pub wrap-both : (x y : ℤ) → wrap (wrap x +ℤ wrap y) ≡ wrap (x +ℤ y)
+wrap-both x y = wrap-add-right (wrap x) y ∙ wrap-add x y
 
 pub wrap-small : (x : ℤ) → nat_abs x < 2 ^ 63 → wrap x ≡ x
 wrap-small x h = wrap-fits x (fits64 x h)

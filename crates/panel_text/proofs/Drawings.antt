@@ -65,7 +65,7 @@ module _ (ns after : List (Option ℤ)) where
       frame-beyond e = record { same = both_read false e; legal = tt }
 
       pub frame-within : panel_frame (frame rows columns) ≡ true → FrameIs ns (Ok (frame rows columns)) left
-      frame-within e = record { same = both_read true e; legal = rw e tt }
+      frame-within e = record { same = both_read true e; legal = (rw e tt, refl) }
 
 -- ---- the window
 module _ (z : Frame) where
@@ -142,7 +142,7 @@ unfolding panel_frame
 cells-few z t = leb→le (cells z) 4096 (and_right (frame_legal z) (leb (cells z) 4096) t)
 
 pub picture-required : {ns after : List (Option ℤ)} {z : Frame} {area : List ℤ} → FrameIs ns (Ok z) after → 4096 ≤ length area → PictureRequires z area
-picture-required s h = record { legal = s.legal; room = h }
+picture-required s h = record { legal = s.legal.0; clips = s.legal.1; room = h }
 
 pub cells-room : (z : Frame) (area : List ℤ) → PictureRequires z area → cells z ≤ length area
 cells-room z area r = omega (arith, cells-few z r.legal, r.room)

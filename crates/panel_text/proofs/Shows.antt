@@ -17,6 +17,7 @@ use Rattle.spec_picture.specs.declared.Frame.{Frame}
 use Rattle.spec_picture.specs.Frame.{frame_legal, cells}
 use Rattle.spec_picture.specs.declared.Window.{Window}
 use Rattle.spec_picture.specs.Window.{window_legal}
+use Rattle.spec_picture.proofs.Borders.{fits-clipped}
 use Rattle.spec_picture.proofs.Refusals.{pass, no-checks, length-passes, in-limits}
 use Rattle.spec_smoothing.specs.Smoothing.{smoothed, smooth_checks, smooth_call}
 use Rattle.spec_smoothing.proofs.Means.{smooth-writes}
@@ -49,7 +50,7 @@ module _ (z : Frame) (w : Window) (levels : List ℤ) (out : List ℕ) (s : Show
   smooth-passes old e =
       pass 1 _ _ (not-of (frame_legal z) (in_frame z s.picture.legal)) ∙
       pass 2 _ _ (length-passes (length (take (cells z) levels)) (cells z) (sym show-part)) ∙
-      pass 3 _ _ (not-of (window_legal w) s.window) ∙ pass 8 _ _ (length-passes (length old) (cells z) e) ∙ no-checks
+      pass 3 _ _ (not-of (window_legal w) s.window) ∙ fits-clipped z s.picture.clips w _ ∙ pass 8 _ _ (length-passes (length old) (cells z) e) ∙ no-checks
 
   -- the means, in an area of which they are the first, and the lines of them
   module _ (area new : List ℤ) (full : 4096 ≡ length area) (e : new ≡ (smooth_call z (take (cells z) levels) w (take (cells z) area)).area) (size : length new ≡ length (take (cells z) area)) (rest : List ℤ) where
@@ -95,7 +96,7 @@ module _ (text old : List ℕ) where
     pub legal-show : (z : Frame) (w : Window) → r ≡ Ok (z, w) → 4096 ≤ length levels → ShowRequires z w levels old
     legal-show z w is full =
         let l = parsed-legal text (record { frame = z; window = w; levels = take (cells z) levels }) (p ∙ ap (λ (x : Result (Frame × Window) Refusal). parse_outcome x levels) is) in
-        record { picture = record { legal = l.frame; room = full }; window = l.window; room = h }
+        record { picture = record { legal = l.frame; clips = l.clips; room = full }; window = l.window; room = h }
 
     panel-is : panel text ≡ output_of (parse_outcome r levels)
     unfolding panel

@@ -26,10 +26,10 @@ abbrev pub frame_outcome : Result Frame Refusal → List (Option ℤ) → Outcom
 frame_outcome (Err e) left = refused (number e)
 frame_outcome (Ok z) left = filled z left
 
--- a frame that was accepted is legal
+-- a frame that was accepted is legal, and its columns clip: "*panel* never wraps"
 abbrev pub FrameLegal : Result Frame Refusal → Type 0
 FrameLegal (Err e) = Unit
-FrameLegal (Ok z) = T (panel_frame z)
+FrameLegal (Ok z) = T (panel_frame z) × (z.columns_wrap ≡ false)
 
 pub record FrameIs (ns : List (Option ℤ)) (r : Result Frame Refusal) (left : List (Option ℤ)) : Type 0 where
   pub same : sized ns ≡ frame_outcome r left
@@ -43,9 +43,10 @@ window_outcome z (Ok w) left = windowed z w (levels_of (cells z) left)
 pub record WindowIs (ns : List (Option ℤ)) (r : Result Window Refusal) (left : List (Option ℤ)) : Type 0 where
   pub same : (z : Frame) → filled z ns ≡ window_outcome z r left
 
--- a legal frame, and an area that has room for its levels
+-- a legal frame whose columns clip, and an area that has room for its levels
 pub record PictureRequires (z : Frame) (area : List ℤ) : Type 0 where
   pub legal : T (panel_frame z)
+  pub clips : z.columns_wrap ≡ false
   pub room : 4096 ≤ length area
 
 -- what a text that was accepted asks for, its levels being the first of an area

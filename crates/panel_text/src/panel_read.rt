@@ -36,7 +36,12 @@ fn read_frame(numbers: &mut Numbers) -> Result<Frame, Refusal>
 {
     let rows = count(read_number(numbers)?) as usize;
     let columns = count(read_number(numbers)?) as usize;
-    let frame = Frame { rows, columns };
+    // "*panel* never wraps".
+    let frame = Frame {
+        rows,
+        columns,
+        columns_wrap: false,
+    };
     if !frame_legal(frame) {
         return Err(Refusal::Size);
     }

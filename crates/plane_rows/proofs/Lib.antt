@@ -1,3 +1,4 @@
+pub mod ColumnLaws
 pub mod CountingCells
 pub mod FactorLaws
 pub mod Filled

@@ -44,7 +44,7 @@ module _ (lo hi k : ℕ) where
       let t : T test = rw (← is, all) tt in
       (among-from t, among-upto t)
 
-abbrev overlap : (first end first_in_g : ℕ) → first ≤ end → Overlap
+abbrev pub overlap : (first end first_in_g : ℕ) → first ≤ end → Overlap
 overlap first end first_in_g p = record { first = first; end = end; first_in_g = first_in_g; ordered = p }
 
 -- ---- a place k that is shifted by d

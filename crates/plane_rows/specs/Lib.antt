@@ -1,3 +1,4 @@
+pub mod Columns
 pub mod Factors
 pub mod LevelRows
 pub mod Overlaps

@@ -10,6 +10,7 @@ ghost use Rattle.plane_rows.specs.Factors.{on_factor};
 ghost use Rattle.plane_rows.specs.LevelRows.{Cells, AllCount};
 
 use crate::factors::{Factor, Factors, factors_of};
+use crate::overlaps::Overlap;
 use crate::view::{View, view_of};
 use spec_picture::CheckedSource;
 
@@ -35,10 +36,17 @@ fn copy(levels: &[i16], out: &mut [i16])
     out.copy_from_slice(levels);
 }
 
-// The columns from `start` up to `end` of a row, all of which count if the row does: as the picture has them, and zeros if it does not.
+// The columns from `start` up to `end` of one of the two stretches of columns that count: as the picture has them if the row counts, and zeros if it does not.
 #[tactic(auto, unfolding(spec_picture::specs::Frame::frame_legal))]
-pub fn part<'a>(view: &View<'a>, factor: Factor, row: usize, start: usize, end: usize) -> &'a [i16]
-    requires { AllCount view.now.columns start end }
+pub fn part<'a>(
+    view: &View<'a>,
+    factor: Factor,
+    row: usize,
+    stretch: Overlap,
+    start: usize,
+    end: usize,
+) -> &'a [i16]
+    requires { AllCount view.now.source.frame view.now.source.shift stretch start end }
     ensures { Cells (plane_at (on_factor (checked_source view.now.source) factor)) row start end result.now }
 {
     if !view.has_row(row) {
@@ -53,34 +61,47 @@ pub fn part<'a>(view: &View<'a>, factor: Factor, row: usize, start: usize, end: 
         }
         Factor::G => {
             let row_of_g = view.rows.first_in_g + (row - view.rows.first);
-            let first = row_of_g * width + view.columns.first_in_g;
-            let before = view.columns.first;
+            let first = row_of_g * width + stretch.first_in_g;
+            let before = stretch.first;
             &view.source.g[first + (start - before)..first + (end - before)]
         }
     }
 }
 
-// A whole row as the picture has it, where all columns count.
+// A whole row as the picture has it, where all columns count and none is past the seam.
 pub fn own_row<'a>(view: &View<'a>, factor: Factor, row: usize) -> Option<&'a [i16]>
     ensures { IfSome result (λ levels. Cells (plane_at (on_factor (checked_source view.now.source) factor)) row 0 view.now.source.frame.columns levels.now) }
 {
     let width = view.source.frame.columns;
-    if 0 < view.columns.first || view.columns.end < width {
+    let along = view.columns.along;
+    if 0 < along.first || along.end < width {
         return None;
     }
-    Some(part(view, factor, row, 0, width))
+    Some(part(view, factor, row, along, 0, width))
 }
 
-// A whole row is written to out, zeros where cells do not count.
+// A whole row is written to out: up to the seam and from there on, with zeros where cells do not count.
 pub fn copied(view: &View<'_>, factor: Factor, row: usize, out: &mut [i16])
     requires { length out.old ≡ view.now.source.frame.columns }
     ensures { out.new ≡ tabulate view.now.source.frame.columns (plane_at (on_factor (checked_source view.now.source) factor) row) }
 {
     let width = view.source.frame.columns;
-    let first = view.columns.first;
-    let end = view.columns.end;
+    let along = view.columns.along;
+    let round = view.columns.round;
+    let first = along.first;
+    let seam = along.end;
+    let end = round.end;
     fill(&mut out[0..first], 0);
-    copy(part(view, factor, row, first, end), &mut out[first..end]);
+    copy(
+        part(view, factor, row, along, first, seam),
+        &mut out[first..seam],
+    );
+    if seam < end {
+        copy(
+            part(view, factor, row, round, seam, end),
+            &mut out[seam..end],
+        );
+    }
     fill(&mut out[end..width], 0);
 }
 

@@ -3,6 +3,7 @@
 #![tactic(auto)]
 
 pub mod overlaps; // overlaps.rt: which places count along one side under a shift
+pub mod columns; // columns.rt: which columns count under a shift, in one stretch or two
 pub mod view; // view.rt: checked inputs with the rows and columns that count
 pub mod factors; // factors.rt: the planes of ones and levels that a plane is the product of
 pub mod level_rows; // level_rows.rt: a row of such a plane, lent or copied

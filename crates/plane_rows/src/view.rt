@@ -1,16 +1,18 @@
 // Checked inputs with the rows and the columns that count: found once, and handed on.
-ghost use Rattle.std.specs.Prelude.{◌≡◌, ◌&&◌, leb, ltb, min, max};
+ghost use Rattle.std.specs.Prelude.{◌≡◌, ◌&&◌, leb, ltb};
 ghost use Rattle.plane_rows.specs.Views.{Counting};
 
+use crate::columns::{Columns, columns_of};
 use crate::overlaps::{Overlap, overlap_of};
 use spec_picture::CheckedSource;
 
 // Two pictures, a shift and a plane, and which rows and columns count: "A cell (m, n) counts when it and (m+u, n+v) are both inside the picture."
+// Where columns wrap all of them count.
 #[derive(Clone, Copy)]
 pub struct View<'a> {
     pub source: CheckedSource<'a>,
     pub rows: Overlap,
-    pub columns: Overlap,
+    pub columns: Columns,
     pub ghost counting: { Counting source.frame source.shift rows columns },
 }
 
@@ -21,7 +23,7 @@ pub fn view_of<'a>(source: &CheckedSource<'a>) -> View<'a>
     View {
         source: *source,
         rows: overlap_of(source.frame.rows, source.shift.down),
-        columns: overlap_of(source.frame.columns, source.shift.right),
+        columns: columns_of(source.frame, source.shift.right),
     }
 }
 
@@ -31,12 +33,5 @@ impl View<'_> {
         ensures { result ≡ (leb self.now.rows.first row && ltb row self.now.rows.end) }
     {
         self.rows.first <= row && row < self.rows.end
-    }
-
-    // The place among the columns that count that is next to a column: of the columns between two, those that count lie between their two places.
-    pub fn clip(&self, column: usize) -> usize
-        ensures { result ≡ min (max column self.now.columns.first) self.now.columns.end }
-    {
-        column.max(self.columns.first).min(self.columns.end)
     }
 }

@@ -29,27 +29,63 @@ by-64 true false = refl
 by-64 false true = refl
 by-64 false false = refl
 
--- ---- all columns: those from `first` up to `end` are changed, and the change of the others is 0
-module _ (n first end : ℕ) (o : first ≤ end) (h : end ≤ n) (sums part : List ℤ) (room : length sums ≡ n) (numbers : Numbers sums) (change : ℕ → ℤ)
-    (none : (j : ℕ) → j < n → (first ≤ j → j < end → ⊥) → change j ≡ pos 0)
-    (e : part ≡ tabulate (length (take (end - first) (drop first sums))) (λ k. wrap (at (take (end - first) (drop first sums)) k +ℤ change (first + k)))) where
-  inside : end ≤ length sums
-  inside = omega (arith, h, room)
+-- ---- sums that are changed from column `first` up to column `end`, and kept elsewhere
+pub record Changed (change : ℕ → ℤ) (sums now : List ℤ) (first end : ℕ) : Type 0 where
+  pub size : length now ≡ length sums
+  pub changed : (j : ℕ) → first ≤ j → j < end → at now j ≡ wrap (at sums j +ℤ change j)
+  pub kept : (j : ℕ) → (first ≤ j → j < end → ⊥) → at now j ≡ at sums j
 
-  size : length part ≡ end - first
-  size = ap length e ∙ length-tabulate _ (λ k. wrap (at (take (end - first) (drop first sums)) k +ℤ change (first + k))) ∙ slice-length first end sums o inside
+pub changed_none : (change : ℕ → ℤ) (sums : List ℤ) (first : ℕ) → Changed change sums sums first first
+changed_none change sums first = record { size = refl; changed = λ j a b. absurd (omega arith); kept = λ j never. refl }
 
-  kept : (j : ℕ) → j < n → (first ≤ j → j < end → ⊥) → at sums j ≡ wrap (at sums j +ℤ change j)
-  kept j j< never = sym (ap (λ (z : ℤ). wrap (at sums j +ℤ z)) (none j j< never) ∙ ap wrap (+ℤ_idr (at sums j)) ∙ numbers.whole j)
+-- the columns from `seam` on up to `end` are changed too
+module _ {change : ℕ → ℤ} {sums now : List ℤ} {first seam : ℕ} (u : Changed change sums now first seam) (end : ℕ) (f : first ≤ seam) (o : seam ≤ end) (h : end ≤ length sums) where
+  module _ (part : List ℤ) (e : part ≡ tabulate (length (take (end - seam) (drop seam now))) (λ k. wrap (at (take (end - seam) (drop seam now)) k +ℤ change (seam + k)))) where
+    inside : end ≤ length now
+    inside = omega (arith, h, u.size)
 
-  sum-at : (j : ℕ) → j < n → Dec (j < first) → Dec (j < end) → at (put_mid first (end - first) sums part) j ≡ wrap (at sums j +ℤ change j)
-  sum-at j j< (yes a) d = part-before first end sums part o inside size j a ∙ kept j j< (λ u v. omega arith)
-  sum-at j j< (no a) (no b) = part-after first end sums part o inside size j (omega arith) ∙ kept j j< (λ u v. omega arith)
-  sum-at j j< (no a) (yes b) =
-      let here : first + (j - first) ≡ j = omega arith in
-      part-within first end sums part o inside size j (omega arith) b
-      ∙ tabulate-at part _ _ e (j - first) (omega (arith, size))
-      ∙ ap₂ (λ (y z : ℤ). wrap (y +ℤ z)) (slice_at first end sums o inside (j - first) (omega arith) ∙ ap (at sums) here) (ap change here)
+    size : length part ≡ end - seam
+    size = ap length e ∙ length-tabulate _ (λ k. wrap (at (take (end - seam) (drop seam now)) k +ℤ change (seam + k))) ∙ slice-length seam end now o inside
 
-  pub sums-changed : put_mid first (end - first) sums part ≡ tabulate n (λ j. wrap (at sums j +ℤ change j))
-  sums-changed = is-tabulate _ n _ (part_length first end sums part o inside size ∙ room) (λ j j<. sum-at j j< (dec_lt j first) (dec_lt j end))
+    before : (j : ℕ) → j < seam → at (put_mid seam (end - seam) now part) j ≡ at now j
+    before j j< = part-before seam end now part o inside size j j<
+
+    changed-at : (j : ℕ) → first ≤ j → j < end → Dec (j < seam) → at (put_mid seam (end - seam) now part) j ≡ wrap (at sums j +ℤ change j)
+    changed-at j a b (yes l) = before j l ∙ u.changed j a l
+    changed-at j a b (no l) =
+        let here : seam + (j - seam) ≡ j = omega arith in
+        part-within seam end now part o inside size j (omega arith) b
+        ∙ tabulate-at part _ _ e (j - seam) (omega (arith, size))
+        ∙ ap₂ (λ (y z : ℤ). wrap (y +ℤ z)) (slice_at seam end now o inside (j - seam) (omega arith) ∙ ap (at now) here ∙ u.kept j (λ x y. l y)) (ap change here)
+
+    kept-at : (j : ℕ) → (first ≤ j → j < end → ⊥) → Dec (j < seam) → at (put_mid seam (end - seam) now part) j ≡ at sums j
+    kept-at j never (yes l) = before j l ∙ u.kept j (λ x y. never x (omega arith))
+    kept-at j never (no l) = part-after seam end now part o inside size j (out (dec_lt j end)) ∙ u.kept j (λ x y. l y)
+      where
+        out : Dec (j < end) → end ≤ j
+        out (yes b) = absurd (never (omega arith) b)
+        out (no b) = omega arith
+
+    pub changed-more : Changed change sums (put_mid seam (end - seam) now part) first end
+    changed-more = record {
+      size = part_length seam end now part o inside size ∙ u.size;
+      changed = λ j a b. changed-at j a b (dec_lt j seam);
+      kept = λ j never. kept-at j never (dec_lt j seam);
+    }
+
+  -- there are none
+  pub changed-same : end ≤ seam → Changed change sums now first end
+  changed-same l = let s : seam ≡ end = omega arith in rw (← s) u
+
+-- the change of the others is 0
+pub sums-changed : {change : ℕ → ℤ} {sums now : List ℤ} {first end : ℕ} → Changed change sums now first end → (n : ℕ) → length sums ≡ n → Numbers sums → ((j : ℕ) → j < n → (first ≤ j → j < end → ⊥) → change j ≡ pos 0) →
+    now ≡ tabulate n (λ j. wrap (at sums j +ℤ change j))
+sums-changed {change} {sums} {now} {first} {end} u n room numbers none = is-tabulate now n _ (u.size ∙ room) (λ j j<. go j j< (dec_lt j first) (dec_lt j end))
+  where
+    same : (j : ℕ) → j < n → (first ≤ j → j < end → ⊥) → at now j ≡ wrap (at sums j +ℤ change j)
+    same j j< never = u.kept j never ∙ sym (ap (λ (z : ℤ). wrap (at sums j +ℤ z)) (none j j< never) ∙ ap wrap (+ℤ_idr (at sums j)) ∙ numbers.whole j)
+
+    go : (j : ℕ) → j < n → Dec (j < first) → Dec (j < end) → at now j ≡ wrap (at sums j +ℤ change j)
+    go j j< (yes a) d = same j j< (λ x y. omega arith)
+    go j j< (no a) (no b) = same j j< (λ x y. b y)
+    go j j< (no a) (yes b) = u.changed j (omega arith) b

@@ -1,3 +1,4 @@
 pub mod Adding
 pub mod Entering
 pub mod Sliding
+pub mod RoundChanges

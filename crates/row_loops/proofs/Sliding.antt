@@ -1,12 +1,13 @@
 -- A sum that slides from place to place, over a row that is written part by part, and the neighbours of a row's columns as such a sum.
 -- Assumes nothing.
 use mathlib.Core.Path.{◌≡◌, sym, ap, ap₂, ◌∙◌}
+use mathlib.Core.Bool.{Bool, true, false}
 use mathlib.Core.List.{List}
-use Prim.Native.Nat.{ℕ, suc, ◌+◌, ◌-◌, ◌≤◌, ◌<◌, min}
+use Prim.Native.Nat.{ℕ, suc, ◌+◌, ◌-◌, ◌*◌, ◌≤◌, ◌<◌, min}
 use native.Mathlib.Numerals.{add-one}
 use native.Mathlib.Omega.{arith}
 use lib.Dec.{ltb, leb, le→leb, leb→le}
-use lib.IntN.{ℤ, pos, ◌+ℤ◌, +ℤ_assoc, +ℤ_idr}
+use lib.IntN.{ℤ, pos, ◌+ℤ◌, ◌-ℤ◌, +ℤ_assoc, +ℤ_idr}
 use lib.ListN.{length, take, drop}
 use lib.Seq.{get_or-take, get_or-drop}
 use borrow.Rule.Slice.PartMut.{put_mid}
@@ -17,10 +18,12 @@ use Rattle.numbers.specs.Grid.{tabulate}
 use Rattle.numbers.specs.Sum.{sum_to, pick}
 use Rattle.numbers.specs.Wrap.{wrap}
 use Rattle.numbers.proofs.Lines.{tabulated-length}
-use Rattle.numbers.proofs.Sums.{sum-suc, sum-split, sum-cong, near-change, near-moved, pick_yes, pick_no, pick-in, pick_out}
+use Rattle.numbers.proofs.Sums.{sum-suc, sum-split, sum-cong, sum-range, near-change, near-moved, pick_yes, pick_no, pick-in, pick_out}
 use Rattle.numbers.proofs.Wraps.{wrap-add, wrap-add-right, wrap-fits, sfits-wrap}
 use Rattle.numbers.proofs.Writes.{at, is-tabulate, tabulate-at, Upto, upto-none, upto-part, slice-length}
+use Rattle.spec_picture.specs.Frame.{gap_of}
 use Rattle.row_loops.specs.SlidingSums.{neighbour_sum, running_sum, entered_less_left, Slid}
+use Rattle.row_loops.proofs.RoundChanges.{round-change, before-first, round-moved}
 
 -- ---- a sum and its changes
 module _ (sum : ℤ) (f : ℕ → ℤ) where
@@ -72,12 +75,15 @@ module _ {start s last : ℤ} {f : ℕ → ℤ} {old now enter leave part : List
       }
 
 -- ---- what enters and what leaves at column i: a number of a part of the row, or none
-module _ (row : List ℤ) (b i : ℕ) where
-  part_at : (from n k : ℕ) → k < n → at (take n (drop from row)) k ≡ at row (from + k)
-  part_at from n k l = get_or-take n (drop from row) k (pos 0) l ∙ get_or-drop from row k (pos 0)
+part_at : (row : List ℤ) (from n k : ℕ) → k < n → at (take n (drop from row)) k ≡ at row (from + k)
+part_at row from n k l = get_or-take n (drop from row) k (pos 0) l ∙ get_or-drop from row k (pos 0)
 
+pub part-place : (row : List ℤ) (from n k place : ℕ) → k < n → from + k ≡ place → at (take n (drop from row)) k ≡ at row place
+part-place row from n k place l e = part_at row from n k l ∙ ap (at row) e
+
+module _ (row : List ℤ) (b i : ℕ) where
   pub enters-from : (from n k : ℕ) → k < n → from + k ≡ i + b → i + b < length row → at (take n (drop from row)) k ≡ pick (ltb (i + b) (length row)) (at row (i + b))
-  enters-from from n k l e h = part_at from n k l ∙ ap (at row) e ∙ sym (pick-in (i + b) (length row) (at row (i + b)) h)
+  enters-from from n k l e h = part-place row from n k (i + b) l e ∙ sym (pick-in (i + b) (length row) (at row (i + b)) h)
 
   pub enters_none : length row ≤ i + b → pos 0 ≡ pick (ltb (i + b) (length row)) (at row (i + b))
   enters_none h = sym (pick_out (i + b) (length row) (at row (i + b)) h)
@@ -85,22 +91,60 @@ module _ (row : List ℤ) (b i : ℕ) where
   pub leaves-from : (from n k : ℕ) → k < n → from + k + suc b ≡ i → i < length row → at (take n (drop from row)) k ≡ pick (leb (suc b) i) (pick (ltb (i - suc b) (length row)) (at row (i - suc b)))
   leaves-from from n k l e h =
       let place : from + k ≡ i - suc b = omega arith in
-      part_at from n k l ∙ ap (at row) place
+      part-place row from n k (i - suc b) l place
       ∙ sym (pick_yes (leb (suc b) i) _ (le→leb (suc b) i (omega arith)) ∙ pick-in (i - suc b) (length row) (at row (i - suc b)) (omega arith))
 
   pub leaves_none : i ≤ b → pos 0 ≡ pick (leb (suc b) i) (pick (ltb (i - suc b) (length row)) (at row (i - suc b)))
   leaves_none h = sym (pick_no (leb (suc b) i) _ (λ t. omega (arith, leb→le (suc b) i t)))
 
--- ---- the neighbours of a row's columns, from the sum of the first b numbers on
-module _ (row : List ℤ) (b reach : ℕ) (start : ℤ) (m : reach ≡ min b (length row)) (e : start ≡ wrap (sum_to reach (at row))) where
-  pub slid-none : (old : List ℤ) → SlidUpto start (near-change (length row) b (at row)) old old 0 start
-  slid-none old = record { written = upto-none _ old; last_is = running-none start _ (rw e (sfits-wrap _)) }
+-- ---- the neighbours of a row's columns, from the sum before the first column on
+pub slid-none : (start base : ℤ) (f : ℕ → ℤ) (old : List ℤ) → start ≡ wrap base → SlidUpto start f old old 0 start
+slid-none start base f old e = record { written = upto-none _ old; last_is = running-none start f (rw e (sfits-wrap base)) }
 
-  neighbours-moved : (j : ℕ) → running_sum start (near-change (length row) b (at row)) (j + 1) ≡ neighbour_sum row b j
+module _ (row : List ℤ) (wraps : Bool) (b : ℕ) (start base : ℤ) (change : ℕ → ℤ) (e : start ≡ wrap base)
+    (moved : (j : ℕ) → j < length row → sum_to (length row) (λ k. pick (leb (gap_of wraps (length row) j k) b) (at row k)) ≡ base +ℤ sum_to (j + 1) change) where
+  neighbours-moved : (j : ℕ) → j < length row → running_sum start change (j + 1) ≡ neighbour_sum wraps row b j
   unfolding running_sum
-  neighbours-moved j =
-      rw (e, m) (wrap-add (sum_to (min b (length row)) (at row)) (sum_to (j + 1) (near-change (length row) b (at row)))
-      ∙ ap wrap (sym (near-moved (length row) j b (at row))))
+  neighbours-moved j j< = rw e (wrap-add base (sum_to (j + 1) change) ∙ ap wrap (sym (moved j j<)))
 
-  pub slid_all : {old now : List ℤ} {last : ℤ} → length old ≡ length row → SlidUpto start (near-change (length row) b (at row)) old now (length row) last → now ≡ tabulate (length row) (neighbour_sum row b)
-  slid_all {old} {now} h u = is-tabulate now (length row) (neighbour_sum row b) (u.written.size ∙ h) (λ k l. u.written.done k l ∙ neighbours-moved k)
+  pub slid_all : {old now : List ℤ} {last : ℤ} → length old ≡ length row → SlidUpto start change old now (length row) last → now ≡ tabulate (length row) (neighbour_sum wraps row b)
+  slid_all {old} {now} h u = is-tabulate now (length row) (neighbour_sum wraps row b) (u.written.size ∙ h) (λ k l. u.written.done k l ∙ neighbours-moved k l)
+
+-- where columns clip, it is that of the first b numbers
+module _ (row : List ℤ) (b reach : ℕ) (start : ℤ) (m : reach ≡ min b (length row)) (e : start ≡ wrap (sum_to reach (at row))) where
+  begun : start ≡ wrap (sum_to (min b (length row)) (at row))
+  begun = e ∙ ap (λ (k : ℕ). wrap (sum_to k (at row))) m
+
+  pub clipped-none : (old : List ℤ) → SlidUpto start (near-change (length row) b (at row)) old old 0 start
+  clipped-none old = slid-none start (sum_to (min b (length row)) (at row)) (near-change (length row) b (at row)) old begun
+
+  pub clipped-all : {old now : List ℤ} {last : ℤ} → length old ≡ length row → SlidUpto start (near-change (length row) b (at row)) old now (length row) last →
+      now ≡ tabulate (length row) (neighbour_sum false row b)
+  clipped-all h u = slid_all row false b start (sum_to (min b (length row)) (at row)) (near-change (length row) b (at row)) begun (λ j j<. near-moved (length row) j b (at row)) h u
+
+-- where columns wrap, it is that of the first b numbers and the last b + 1
+module _ (row : List ℤ) (b : ℕ) (start first last : ℤ) (fits : 2 * b + 1 ≤ length row) (e : start ≡ wrap (first +ℤ last))
+    (e₁ : first ≡ wrap (sum_to b (at row))) (e₂ : last ≡ wrap (sum_to (b + 1) (at (take (length row - (length row - (b + 1))) (drop (length row - (b + 1)) row))))) where
+  last-numbers : sum_to (b + 1) (at (take (length row - (length row - (b + 1))) (drop (length row - (b + 1)) row))) ≡ sum_to (length row) (at row) -ℤ sum_to (length row - suc b) (at row)
+  last-numbers =
+      let size : length row - (length row - suc b) ≡ b + 1 = omega arith in
+      let from : length row - (b + 1) ≡ length row - suc b = omega arith in
+      sum-cong (b + 1) (at (take (length row - (length row - (b + 1))) (drop (length row - (b + 1)) row))) (λ k. at row (length row - suc b + k))
+      (λ k k<. part_at row (length row - (b + 1)) (length row - (length row - (b + 1))) k (omega arith) ∙ ap (λ (m : ℕ). at row (m + k)) from)
+      ∙ ap (λ (m : ℕ). sum_to m (λ k. at row (length row - suc b + k))) (sym size)
+      ∙ sym (sum-range (length row - suc b) (length row) (at row) (omega arith))
+
+  round-begun : start ≡ wrap (before-first (length row) b (at row))
+  round-begun =
+      let all : b ≡ min b (length row) = omega arith in
+      e ∙ ap₂ (λ (x y : ℤ). wrap (x +ℤ y)) (e₁ ∙ ap (λ (m : ℕ). wrap (sum_to m (at row))) all) (e₂ ∙ ap wrap last-numbers)
+      ∙ wrap-add-right (wrap (sum_to (min b (length row)) (at row))) (sum_to (length row) (at row) -ℤ sum_to (length row - suc b) (at row))
+      ∙ wrap-add (sum_to (min b (length row)) (at row)) (sum_to (length row) (at row) -ℤ sum_to (length row - suc b) (at row))
+
+  pub round-none : (old : List ℤ) → SlidUpto start (round-change (length row) b (at row)) old old 0 start
+  round-none old = slid-none start (before-first (length row) b (at row)) (round-change (length row) b (at row)) old round-begun
+
+  pub round-all : {old now : List ℤ} {last : ℤ} → length old ≡ length row → SlidUpto start (round-change (length row) b (at row)) old now (length row) last →
+      now ≡ tabulate (length row) (neighbour_sum true row b)
+  round-all h u =
+      slid_all row true b start (before-first (length row) b (at row)) (round-change (length row) b (at row)) round-begun (λ j j<. round-moved (length row) b (at row) j j< fits) h u

@@ -1,13 +1,14 @@
 -- The sums of a row's neighbours, and a sum that slides from place to place.
 -- Assumes nothing.
-use Rattle.std.specs.Prelude.{◌≡◌, ℕ, ◌+◌, List, leb, length, get_or, ℤ, pos, ◌+ℤ◌, ◌-ℤ◌}
+use Rattle.std.specs.Prelude.{◌≡◌, ℕ, ◌+◌, Bool, List, leb, length, get_or, ℤ, pos, ◌+ℤ◌, ◌-ℤ◌}
 use Rattle.numbers.specs.Grid.{tabulate}
-use Rattle.numbers.specs.Sum.{sum_to, pick, dist}
+use Rattle.numbers.specs.Sum.{sum_to, pick}
 use Rattle.numbers.specs.Wrap.{wrap}
+use Rattle.spec_picture.specs.Frame.{gap_of}
 
--- the wrapped sum of the row's numbers at most b columns from column j
-abbrev pub neighbour_sum : List ℤ → (b j : ℕ) → ℤ
-neighbour_sum row b j = wrap (sum_to (length row) (λ n. pick (leb (dist j n) b) (get_or row n (pos 0))))
+-- "the wrapped sum .. over columns j-b to j+b": of the row's numbers at most b columns from column j, where columns clip or wrap
+abbrev pub neighbour_sum : Bool → List ℤ → (b j : ℕ) → ℤ
+neighbour_sum wraps row b j = wrap (sum_to (length row) (λ n. pick (leb (gap_of wraps (length row) j n) b) (get_or row n (pos 0))))
 
 -- a sum after its first n changes, wrapped
 unfoldable pub running_sum : ℤ → (ℕ → ℤ) → ℕ → ℤ

@@ -6,11 +6,15 @@ ghost use Rattle.numbers.specs.Grid.{tabulate};
 ghost use Rattle.numbers.specs.Wrap.{wrap};
 ghost use Rattle.spec_picture.specs.Picture.{plane_at};
 ghost use Rattle.spec_picture.specs.Checked.{checked_source};
+ghost use Rattle.plane_rows.specs.Columns.{Stretch};
 ghost use Rattle.row_loops.specs.Added.{Numbers};
 
-use crate::entering_loops::{add_number, levels_enter_and_leave, products_enter_and_leave};
+use crate::entering_loops::{
+    add_number, levels_enter_and_leave, products_enter_and_leave, squares_enter_and_leave,
+};
 use plane_rows::factors::{Factor, Factors, factors_of};
 use plane_rows::level_rows::part;
+use plane_rows::overlaps::Overlap;
 use plane_rows::view::{View, view_of};
 use spec_picture::CheckedSource;
 
@@ -24,13 +28,19 @@ fn numbers_fit(sums: &[i64])
     }
 }
 
-// The sums of the columns that count: row `enter` is added, and row `leave` taken away. Rows of plane 0 count whole or not at all there, so one number says what they change.
-fn columns_that_count(view: &View<'_>, enter: usize, leave: usize, sums: &mut [i64])
-    requires { view.now.columns.first + length sums.old ≡ view.now.columns.end }
-    ensures { sums.new ≡ tabulate (length sums.old) (λ k. wrap (get_or sums.old k (pos 0) +ℤ (plane_at (checked_source view.now.source) enter (view.now.columns.first + k) -ℤ plane_at (checked_source view.now.source) leave (view.now.columns.first + k)))) }
+// The sums of a stretch of columns that count: row `enter` is added, and row `leave` taken away. Rows of plane 0 count whole or not at all there, so one number says what they change.
+fn columns_that_count(
+    view: &View<'_>,
+    enter: usize,
+    leave: usize,
+    stretch: Overlap,
+    sums: &mut [i64],
+)
+    requires { Stretch view.now.source.frame view.now.source.shift stretch × (stretch.first + length sums.old ≡ stretch.end) }
+    ensures { sums.new ≡ tabulate (length sums.old) (λ k. wrap (get_or sums.old k (pos 0) +ℤ (plane_at (checked_source view.now.source) enter (stretch.first + k) -ℤ plane_at (checked_source view.now.source) leave (stretch.first + k)))) }
 {
-    let first = view.columns.first;
-    let end = view.columns.end;
+    let first = stretch.first;
+    let end = stretch.end;
     match factors_of(view.source.plane) {
         Factors::Level(Factor::One) => {
             add_number(
@@ -39,19 +49,19 @@ fn columns_that_count(view: &View<'_>, enter: usize, leave: usize, sums: &mut [i
             );
         }
         Factors::Level(q) => {
-            let entering = part(view, q, enter, first, end);
-            levels_enter_and_leave(entering, part(view, q, leave, first, end), sums);
+            let entering = part(view, q, enter, stretch, first, end);
+            levels_enter_and_leave(entering, part(view, q, leave, stretch, first, end), sums);
         }
         Factors::Square(q) => {
-            let a = part(view, q, enter, first, end);
-            let c = part(view, q, leave, first, end);
-            products_enter_and_leave(a, a, c, c, sums);
+            let a = part(view, q, enter, stretch, first, end);
+            let c = part(view, q, leave, stretch, first, end);
+            squares_enter_and_leave(a, c, sums);
         }
         Factors::Product(p, q) => {
-            let a = part(view, p, enter, first, end);
-            let b = part(view, q, enter, first, end);
-            let c = part(view, p, leave, first, end);
-            let d = part(view, q, leave, first, end);
+            let a = part(view, p, enter, stretch, first, end);
+            let b = part(view, q, enter, stretch, first, end);
+            let c = part(view, p, leave, stretch, first, end);
+            let d = part(view, q, leave, stretch, first, end);
             products_enter_and_leave(a, b, c, d, sums);
         }
     }
@@ -64,10 +74,12 @@ pub fn enter_and_leave(source: &CheckedSource<'_>, enter: usize, leave: usize, s
 {
     let view = view_of(source);
     numbers_fit(sums);
-    columns_that_count(
-        &view,
-        enter,
-        leave,
-        &mut sums[view.columns.first..view.columns.end],
-    );
+    let along = view.columns.along;
+    let round = view.columns.round;
+    let seam = along.end;
+    let end = round.end;
+    columns_that_count(&view, enter, leave, along, &mut sums[along.first..seam]);
+    if seam < end {
+        columns_that_count(&view, enter, leave, round, &mut sums[seam..end]);
+    }
 }

@@ -34,8 +34,10 @@ pub fn levels_enter_and_leave(enter: &[i16], leave: &[i16], sums: &mut [i64])
     add_each(|k| machine::difference(enter[k], leave[k]), sums);
 }
 
-// Products a·b of levels enter, and products c·d leave. A loop of its own: `add_each` with a closure took 1.15 times as long here.
-pub fn products_enter_and_leave(a: &[i16], b: &[i16], c: &[i16], d: &[i16], sums: &mut [i64])
+// Products a·b of levels enter, and products c·d leave. A loop of its own: `add_each` with a closure took 1.15 times as long here. Inlined into the two functions below, of which each
+// is one loop and nothing else: where it lay in a longer one, its place there cost up to 1.15 times the time.
+#[inline(always)]
+fn products(a: &[i16], b: &[i16], c: &[i16], d: &[i16], sums: &mut [i64])
     requires { ProductsRequires a.now b.now c.now d.now sums.old }
     ensures { sums.new ≡ tabulate (length sums.old) (λ k. wrap (get_or sums.old k (pos 0) +ℤ (get_or a.now k (pos 0) *ℤ get_or b.now k (pos 0) -ℤ get_or c.now k (pos 0) *ℤ get_or d.now k (pos 0)))) }
 {
@@ -44,4 +46,22 @@ pub fn products_enter_and_leave(a: &[i16], b: &[i16], c: &[i16], d: &[i16], sums
         let leave = machine::product(c[k], d[k]);
         sums[k] = wrapping::wrapping_add(sums[k], wrapping::wrapping_sub(enter, leave));
     }
+}
+
+// The same, of products of two planes of levels.
+#[inline(never)]
+pub fn products_enter_and_leave(a: &[i16], b: &[i16], c: &[i16], d: &[i16], sums: &mut [i64])
+    requires { ProductsRequires a.now b.now c.now d.now sums.old }
+    ensures { sums.new ≡ tabulate (length sums.old) (λ k. wrap (get_or sums.old k (pos 0) +ℤ (get_or a.now k (pos 0) *ℤ get_or b.now k (pos 0) -ℤ get_or c.now k (pos 0) *ℤ get_or d.now k (pos 0)))) }
+{
+    products(a, b, c, d, sums);
+}
+
+// The same, of squares: two rows are read, and not four.
+#[inline(never)]
+pub fn squares_enter_and_leave(a: &[i16], c: &[i16], sums: &mut [i64])
+    requires { ProductsRequires a.now a.now c.now c.now sums.old }
+    ensures { sums.new ≡ tabulate (length sums.old) (λ k. wrap (get_or sums.old k (pos 0) +ℤ (get_or a.now k (pos 0) *ℤ get_or a.now k (pos 0) -ℤ get_or c.now k (pos 0) *ℤ get_or c.now k (pos 0)))) }
+{
+    products(a, a, c, c, sums);
 }

@@ -1,7 +1,8 @@
-// The sliding sum across a row: one loop over what enters and what leaves, which knows nothing of where the row ends. It runs once for each kind of column.
+// The sliding sum across a row: one loop over what enters and what leaves, which knows nothing of where the row ends and whether it goes round. It runs once for each kind of
+// column.
 // For callers that have checked their inputs.
 
-ghost use Rattle.std.specs.Prelude.{◌≡◌, ◌≤◌, length, get_or, pos};
+ghost use Rattle.std.specs.Prelude.{◌≡◌, ◌≤◌, ◌+◌, ◌*◌, T, true, false, length, get_or, pos};
 ghost use Rattle.numbers.specs.Grid.{tabulate};
 ghost use Rattle.numbers.specs.Sum.{sum_to};
 ghost use Rattle.numbers.specs.Wrap.{wrap};
@@ -43,10 +44,10 @@ fn slide(enter: &[i64], leave: &[i64], sum: i64, out: &mut [i64]) -> i64
     s
 }
 
-// The sums of a row's neighbours: out[j] is the wrapped sum of work[j - b ..= j + b], as far as the row goes.
-pub fn neighbour_sums(work: &[i64], b: usize, out: &mut [i64])
+// The sums where columns clip: out[j] is the wrapped sum of work[j - b ..= j + b], as far as the row goes.
+fn clipped_sums(work: &[i64], b: usize, out: &mut [i64])
     requires { length out.old ≡ length work.now }
-    ensures { out.new ≡ tabulate (length work.now) (neighbour_sum work.now b) }
+    ensures { out.new ≡ tabulate (length work.now) (neighbour_sum false work.now b) }
 {
     let n = work.len();
     let reach = b.min(n);
@@ -62,4 +63,34 @@ pub fn neighbour_sums(work: &[i64], b: usize, out: &mut [i64])
     let s = slide(&work[n - both..], &work[..both], s, &mut out[low..enters]);
     let s = slide(&[], &[], s, &mut out[enters..high]);
     slide(&[], &work[both..both + (n - high)], s, &mut out[high..n]);
+}
+
+// The sums where columns wrap: a number enters and one leaves at every column.
+fn round_sums(work: &[i64], b: usize, out: &mut [i64])
+    requires { (length out.old ≡ length work.now) × (2 * b + 1 ≤ length work.now) }
+    ensures { out.new ≡ tabulate (length work.now) (neighbour_sum true work.now b) }
+{
+    let n = work.len();
+    // The first column at which the number that leaves is not at the row's end, and the first at which the number that enters is at its beginning.
+    let low = b + 1;
+    let high = n - b;
+    let both = high - low;
+    // The sum of the column before the first, which is the last one.
+    let s = wrapping::wrapping_add(total(work, b), total(&work[n - low..], low));
+    let s = slide(&work[b..b + low], &work[n - low..], s, &mut out[0..low]);
+    let s = slide(&work[n - both..], &work[..both], s, &mut out[low..high]);
+    slide(&work[..b], &work[both..both + b], s, &mut out[high..n]);
+}
+
+// The sums of a row's neighbours: out[j] is the wrapped sum of the numbers at most b columns from column j. Where columns wrap, the last column is beside the first, and no
+// column is reached from both sides.
+pub fn neighbour_sums(wraps: bool, work: &[i64], b: usize, out: &mut [i64])
+    requires { (length out.old ≡ length work.now) × (T wraps → 2 * b + 1 ≤ length work.now) }
+    ensures { out.new ≡ tabulate (length work.now) (neighbour_sum wraps work.now b) }
+{
+    if wraps {
+        round_sums(work, b, out);
+    } else {
+        clipped_sums(work, b, out);
+    }
 }

@@ -66,10 +66,10 @@ reached z P s m j = sum_to z.columns (λ n. pick (leb (column_gap z j n) (reach 
 pub window-0 : (z : Frame) (P : ℕ → ℕ → ℤ) (s : Shape) (j : ℕ) → window_sum z s P 0 j ≡ sum_to (min (suc (0 + height s)) z.rows) (λ m. reached z P s m j)
 window-0 z P s j =
     by_rows z s P 0 j
-    ∙ sum-cong z.rows (λ m. pick (leb (dist 0 m) (height s)) (sum_to z.columns (λ n. pick (leb (dist j n) (reach s (dist 0 m))) (P m n)))) (λ m. pick (leb (dist 0 m) (height s)) (reached z P s m j))
+    ∙ sum-cong z.rows (λ m. pick (leb (dist 0 m) (height s)) (sum_to z.columns (λ n. pick (leb (column_gap z j n) (reach s (dist 0 m))) (P m n)))) (λ m. pick (leb (dist 0 m) (height s)) (reached z P s m j))
     (λ m m<.
     let e : dist 0 m ≡ m = omega arith in
-    ap (λ (p : ℕ). pick (leb (dist 0 m) (height s)) (sum_to z.columns (λ n. pick (leb (dist j n) (reach s p)) (P m n)))) e)
+    ap (λ (p : ℕ). pick (leb (dist 0 m) (height s)) (sum_to z.columns (λ n. pick (leb (column_gap z j n) (reach s p)) (P m n)))) e)
     ∙ from_0 z.rows (height s) (λ m. reached z P s m j)
 
 module _ (z : Frame) (P : ℕ → ℕ → ℤ) (lim : InLimits z) (small : (m n : ℕ) → nat_abs (P m n) ≤ 2 ^ 30) where

@@ -10,10 +10,11 @@ use lib.ListN.{length}
 use Rattle.std.specs.Prelude.{Option, None, Some, SomeIff}
 use lib.IntN.{ℤ, ◌+ℤ◌}
 use Rattle.numbers.specs.Grid.{tabulate}
-use Rattle.numbers.specs.Sum.{sum_to, pick, dist}
+use Rattle.numbers.specs.Sum.{sum_to, pick}
 use Rattle.numbers.specs.Wrap.{wrap}
 use Rattle.numbers.proofs.Writes.{at}
 use Rattle.spec_picture.specs.declared.Frame.{Frame}
+use Rattle.spec_picture.specs.Frame.{gap_of, Apart}
 use Rattle.spec_picture.specs.Window.{Shape, rectangle, slanted, shape_of, is_rectangle, height, width}
 use Rattle.spec_picture.specs.Picture.{Inputs, plane_at}
 use Rattle.spec_picture.specs.Direct.{direct_sum}
@@ -47,10 +48,10 @@ module _ (z : Frame) (P : ℕ → ℕ → ℤ) (work out : List ℤ) where
   area-rectangle-next (rectangle a b) position i c e h p o = rw (p, ← h) o
   area-rectangle-next (slanted o) position i c e h p q = absurd (true≢false (sym e))
 
-  pub area-slanted-next : (s : Shape) (position i : ℕ) → is_rectangle s ≡ false → position ≡ suc i →
+  pub area-slanted-next : (s : Shape) (position i : ℕ) → is_rectangle s ≡ false → Apart z (width s) → position ≡ suc i →
       out ≡ edges_to z P s i work (min (suc (width s)) z.columns) → out ≡ work_after z P s position work
-  area-slanted-next (rectangle a b) position i e p o = absurd (true≢false e)
-  area-slanted-next (slanted s) position i e p o = rw p (edges_are z P s i work out o)
+  area-slanted-next (rectangle a b) position i e fits p o = absurd (true≢false e)
+  area-slanted-next (slanted s) position i e fits p o = rw p (edges_are z P s i work out fits o)
 
 pub area-slanted-first : (x : Inputs) (work out : List ℤ) (position : ℕ) → is_rectangle (shape_of x.window) ≡ false → position ≡ 0 →
     out ≡ tabulate x.source.frame.columns (direct_sum x 0) → out ≡ work_after x.source.frame (plane_at x.source) (shape_of x.window) position work
@@ -63,12 +64,12 @@ area-slanted-first x work out position e p o = o ∙ go (shape_of x.window) e �
 
 -- ---- the output row
 -- a rectangle's output row is the sums of the work area's neighbours
-output-near : (z : Frame) (a b : ℕ) (work : List ℤ) → length work ≡ z.columns → tabulate (length work) (neighbour_sum work b) ≡ output_row z (rectangle a b) work
+output-near : (z : Frame) (a b : ℕ) (work : List ℤ) → length work ≡ z.columns → tabulate (length work) (neighbour_sum z.columns_wrap work b) ≡ output_row z (rectangle a b) work
 unfolding output_row
-output-near z a b work e = ap (λ (n : ℕ). tabulate n (λ j. wrap (sum_to n (λ k. pick (leb (dist j k) b) (at work k))))) e
+output-near z a b work e = ap (λ (n : ℕ). tabulate n (λ j. wrap (sum_to n (λ k. pick (leb (gap_of z.columns_wrap n j k) b) (at work k))))) e
 
 pub output-rectangle : (z : Frame) (s : Shape) (b : ℕ) (work out : List ℤ) → is_rectangle s ≡ true → b ≡ width s → length work ≡ z.columns →
-    out ≡ tabulate (length work) (neighbour_sum work b) → out ≡ output_row z s work
+    out ≡ tabulate (length work) (neighbour_sum z.columns_wrap work b) → out ≡ output_row z s work
 unfolding width
-output-rectangle z (rectangle a c) b work out e h l o = o ∙ ap (λ (k : ℕ). tabulate (length work) (neighbour_sum work k)) h ∙ output-near z a c work l
+output-rectangle z (rectangle a c) b work out e h l o = o ∙ ap (λ (k : ℕ). tabulate (length work) (neighbour_sum z.columns_wrap work k)) h ∙ output-near z a c work l
 output-rectangle z (slanted s) b work out e h l o = absurd (true≢false (sym e))

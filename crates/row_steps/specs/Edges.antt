@@ -11,7 +11,7 @@ use Rattle.spec_rows.specs.Distances.{at_distance}
 
 -- what column j adds from row i to i+1 at the columns at distance c
 abbrev pub edge_change : Frame → (ℕ → ℕ → ℤ) → Shape → (i c j : ℕ) → ℤ
-edge_change z P s i c j = at_distance z.columns (enter_leave z P i (depth s c)) c j
+edge_change z P s i c j = at_distance z (enter_leave z P i (depth s c)) c j
 
 -- the work area with the columns at the first n distances added
 abbrev pub edges_to : Frame → (ℕ → ℕ → ℤ) → Shape → (i : ℕ) → List ℤ → (n : ℕ) → List ℤ

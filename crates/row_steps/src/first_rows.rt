@@ -32,7 +32,7 @@ fn reaching(
 {
     let k = reaches::reach(inputs.window, m);
     planes::plane_row(&inputs.source, m, cells);
-    sliding_sums::neighbour_sums(cells, k, row);
+    sliding_sums::neighbour_sums(inputs.source.frame.columns_wrap, cells, k, row);
     step::add(work, row);
 }
 

@@ -32,11 +32,11 @@ fn move_work_area(position: usize, inputs: &CheckedInputs<'_>, work: &mut [i64],
 
 // The output row: of a rectangle the sums across the work area, of the others the work area.
 fn write_output(frame: Frame, window: CheckedWindow, work: &[i64], out: &mut [i64])
-    requires { OutputRequires frame work.now out.old }
+    requires { OutputRequires frame (shape_of (given window)) work.now out.old }
     ensures { out.new ≡ output_row frame (shape_of (given window)) work.now }
 {
     if shape::is_rectangle(window) {
-        sliding_sums::neighbour_sums(work, shape::width(window), out);
+        sliding_sums::neighbour_sums(frame.columns_wrap, work, shape::width(window), out);
     } else {
         out.copy_from_slice(work);
     }

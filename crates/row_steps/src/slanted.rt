@@ -14,8 +14,8 @@ use crate::step;
 use spec_picture::CheckedInputs;
 use windows::{clip, reaches, shape};
 
-// From row i to i+1, the cells in the columns at distance c, which is at least 1, from each column: those on its right are added
-// to the columns before, and those on its left to the columns after.
+// From row i to i+1, the cells in the columns at distance c, which is at least 1, from each column: those on its left are added to the columns after, and those on its right
+// to the columns before. Where columns wrap, those at the end of the row are added to the first columns too, and those at its beginning to the last.
 fn edge(inputs: &CheckedInputs<'_>, i: usize, c: usize, work: &mut [i64], row: &mut [i64])
     requires { EdgeRequires (checked_inputs inputs.now) i c work.old row.old }
     ensures { work.new ≡ tabulate inputs.now.source.frame.columns (λ j. wrap (get_or work.old j (pos 0) +ℤ edge_change inputs.now.source.frame (plane_at (checked_source inputs.now.source)) (shape_of (given inputs.now.window)) i c j)) }
@@ -24,7 +24,11 @@ fn edge(inputs: &CheckedInputs<'_>, i: usize, c: usize, work: &mut [i64], row: &
     let n = columns - c;
     step::step_difference(&inputs.source, i, reaches::depth(inputs.window, c), row);
     step::add(&mut work[c..columns], &row[..n]);
-    step::add(&mut work[..n], &row[c..columns]);
+    step::add(&mut work[0..n], &row[c..columns]);
+    if inputs.source.frame.columns_wrap {
+        step::add(&mut work[0..c], &row[n..columns]);
+        step::add(&mut work[n..columns], &row[..c]);
+    }
 }
 
 // From row i to i+1.

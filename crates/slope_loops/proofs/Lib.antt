@@ -1,3 +1,4 @@
+pub mod BesideRow
 pub mod Examples
 pub mod LoopLaws
 pub mod Moves

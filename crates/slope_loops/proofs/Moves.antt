@@ -4,15 +4,17 @@ use mathlib.Core.Path.{◌≡◌, refl, sym, ◌∙◌, ap, ap₂}
 use Prim.Native.Nat.{ℕ, zero, suc, ◌+◌, ◌-◌, ◌*◌, ◌≤◌, ◌<◌}
 use native.Mathlib.Omega.{arith}
 use native.Mathlib.Numerals.{add-one}
-use mathlib.Core.Bool.{Bool, true, false}
-use lib.Dec.{leb, leb→le, le→leb}
+use mathlib.Core.Bool.{not}
+use lib.Dec.{T, leb, leb→le}
 use lib.IntN.{ℤ, pos, nat_abs, ◌+ℤ◌, ◌-ℤ◌}
 use Rattle.numbers.specs.Sum.{sum_to, pick}
 use Rattle.numbers.proofs.Linear.{any, sums, ring}
 use Rattle.numbers.proofs.Magnitudes.{size-sub}
-use Rattle.numbers.proofs.Sums.{sum-suc, sum-cong, sum-none, sum-sub, sum_bound, pick_yes, pick_no, pick-bound}
+use Rattle.numbers.proofs.Sums.{sum-suc, sum-cong, sum-none, sum-sub, sum_bound, pick_no, pick-bound}
+use Rattle.spec_picture.specs.declared.Frame.{Frame}
 use Rattle.slope_loops.specs.declared.padding.TheConstants.{ABOVE, MARGIN}
-use Rattle.slope_loops.specs.Slopes.{padded, edge_slopes, on_right, on_left, rising, falling}
+use Rattle.slope_loops.proofs.BesideRow.{pick-zero, beside-bound, beside-inside, beside-zero, clipped-left, clipped-right, round-once}
+use Rattle.slope_loops.specs.Slopes.{lowered, padded, edge_slopes, on_right, on_left, rising, falling}
 
 -- ---- a sum whose terms move on by one
 sum-on : (n : ℕ) (f : ℕ → ℤ) → sum_to n (λ t. f (suc t)) ≡ sum_to n f +ℤ (f n -ℤ f 0)
@@ -56,6 +58,12 @@ module _ (Q : ℕ → ℕ → ℤ) where
     unfolding edge_slopes
     slope-zero n y f g = sum-none n _ (λ t t<. ap₂ ◌-ℤ◌ (f (y + 1 + t) t t<) (g (y - t) t t<))
 
+    -- the same cells at other places
+    pub slope-same : (lower_too upper_too : ℕ → ℕ) (n y : ℕ) → ((m t : ℕ) → t < n → Q m (lower t) ≡ Q m (lower_too t)) → ((m t : ℕ) → t < n → Q m (upper t) ≡ Q m (upper_too t)) →
+        edge_slopes Q lower upper n y ≡ edge_slopes Q lower_too upper_too n y
+    unfolding edge_slopes
+    slope-same lower_too upper_too n y f g = sum-cong n _ _ (λ t t<. ap₂ ◌-ℤ◌ (f (y + 1 + t) t t<) (g (y - t) t t<))
+
     -- From row y to the next: where the lower edge's cells are those a row further on, and the upper edge's those a row further back, each has a new cell and one is gone.
     pub slope-step : (lower_next upper_next : ℕ → ℕ) (n y : ℕ) → n ≤ y + 1 → ((t : ℕ) → t < n → lower_next t ≡ lower (suc t)) → ((t : ℕ) → t < n → upper t ≡ upper_next (suc t)) →
         edge_slopes Q lower_next upper_next n (y + 1) ≡ edge_slopes Q lower upper n y +ℤ (Q (y + 1 + n) (lower n) -ℤ Q (y + 1) (lower 0)) -ℤ (Q (y + 1) (upper_next 0) -ℤ Q (y + 1 - n) (upper_next n))
@@ -83,43 +91,58 @@ module _ (Q : ℕ → ℕ → ℤ) where
         falling Q w h (y + 1) (x + 1) ≡ falling Q w h y x +ℤ (Q (y + 1 + h) (on_left w x h) -ℤ Q (y + 1) (on_left w x 0)) -ℤ (Q (y + 1) (on_right w (x + 1) 0) -ℤ Q (y + 1 - h) (on_right w (x + 1) h))
     falling-step y x wide deep = slope-step (on_left w x) (on_right w x) (on_left w (x + 1)) (on_right w (x + 1)) h y deep (λ t t<. omega arith) (λ t t<. omega arith)
 
--- ---- a plane among zeros
-pub pick-zero : (b : Bool) → pick b (pos 0) ≡ pos 0
-unfolding pick
-pick-zero true = refl
-pick-zero false = refl
-
-module _ (P : ℕ → ℕ → ℤ) where
-  pub padded-bound : (M : ℕ) → ((m n : ℕ) → nat_abs (P m n) ≤ M) → (y x : ℕ) → nat_abs (padded P y x) ≤ M
+-- ---- the padded plane
+module _ (z : Frame) (P : ℕ → ℕ → ℤ) where
+  pub padded-bound : (M : ℕ) → ((m n : ℕ) → nat_abs (P m n) ≤ M) → (y x : ℕ) → nat_abs (padded z P y x) ≤ M
   unfolding padded
-  padded-bound M small y x =
-      omega (arith, pick-bound (leb ABOVE y) (pick (leb MARGIN x) (P (y - ABOVE) (x - MARGIN))), pick-bound (leb MARGIN x) (P (y - ABOVE) (x - MARGIN)), small (y - ABOVE) (x - MARGIN))
+  padded-bound M small y x = beside-bound z.columns_wrap z.columns (lowered P y) M (λ n. omega (arith, pick-bound (leb ABOVE y) (P (y - ABOVE) n), small (y - ABOVE) n)) x
 
-  pub padded-cell : (m n : ℕ) → padded P (ABOVE + m) (MARGIN + n) ≡ P m n
+  pub padded-middle : (y n : ℕ) → n < z.columns → padded z P y (MARGIN + n) ≡ lowered P y n
   unfolding padded
-  padded-cell m n =
-      let row : ABOVE + m - ABOVE ≡ m = omega arith in
-      let column : MARGIN + n - MARGIN ≡ n = omega arith in
-      pick_yes (leb ABOVE (ABOVE + m)) (pick (leb MARGIN (MARGIN + n)) (P (ABOVE + m - ABOVE) (MARGIN + n - MARGIN))) (le→leb ABOVE (ABOVE + m) (omega arith))
-      ∙ pick_yes (leb MARGIN (MARGIN + n)) (P (ABOVE + m - ABOVE) (MARGIN + n - MARGIN)) (le→leb MARGIN (MARGIN + n) (omega arith))
-      ∙ ap₂ P row column
+  padded-middle y n h = beside-inside z.columns_wrap z.columns (lowered P y) n h
 
-  pub padded-above : (y x : ℕ) → y < ABOVE → padded P y x ≡ pos 0
+  pub padded-above : (y x : ℕ) → y < ABOVE → padded z P y x ≡ pos 0
   unfolding padded
-  padded-above y x h = pick_no (leb ABOVE y) (pick (leb MARGIN x) (P (y - ABOVE) (x - MARGIN))) (λ t. omega (arith, leb→le ABOVE y t))
+  padded-above y x h = beside-zero z.columns_wrap z.columns (lowered P y) (λ n. pick_no (leb ABOVE y) (P (y - ABOVE) n) (λ t. omega (arith, leb→le ABOVE y t))) x
 
-  pub padded-left : (y x : ℕ) → x < MARGIN → padded P y x ≡ pos 0
+  -- where columns clip, it is a row among zeros
+  pub padded-left : T (not z.columns_wrap) → (y x : ℕ) → x < MARGIN → padded z P y x ≡ pos 0
   unfolding padded
-  padded-left y x h = ap (pick (leb ABOVE y)) (pick_no (leb MARGIN x) (P (y - ABOVE) (x - MARGIN)) (λ t. omega (arith, leb→le MARGIN x t))) ∙ pick-zero (leb ABOVE y)
+  padded-left clips y x h = clipped-left z.columns_wrap clips z.columns (lowered P y) x h
 
-  -- the slopes that rise reach nothing far on the right, and those that fall nothing far on the left
-  pub falling-left : (w n y x : ℕ) → n ≤ w → x + w < MARGIN → falling (padded P) w n y x ≡ pos 0
-  falling-left w n y x few far = slope-zero (padded P) (on_left w x) (on_right w x) n y (λ m t t<. padded-left m (on_left w x t) (omega arith)) (λ m t t<. padded-left m (on_right w x t) (omega arith))
+  pub padded-right : T (not z.columns_wrap) → ((m n : ℕ) → z.columns ≤ n → P m n ≡ pos 0) → (y x : ℕ) → MARGIN + z.columns ≤ x → padded z P y x ≡ pos 0
+  unfolding padded
+  padded-right clips beside y x h = clipped-right z.columns_wrap clips z.columns (lowered P y) (λ n l. ap (pick (leb ABOVE y)) (beside (y - ABOVE) n l) ∙ pick-zero (leb ABOVE y)) x h
 
-  module _ (columns : ℕ) (beside : (m n : ℕ) → columns ≤ n → P m n ≡ pos 0) where
-    pub padded-right : (y x : ℕ) → MARGIN + columns ≤ x → padded P y x ≡ pos 0
-    unfolding padded
-    padded-right y x h = ap (λ (v : ℤ). pick (leb ABOVE y) (pick (leb MARGIN x) v)) (beside (y - ABOVE) (x - MARGIN) (omega arith)) ∙ ap (pick (leb ABOVE y)) (pick-zero (leb MARGIN x)) ∙ pick-zero (leb ABOVE y)
+  -- where they wrap, a row of the plane once more
+  pub padded-round : T z.columns_wrap → (y x : ℕ) → MARGIN ≤ x + z.columns → x < MARGIN + z.columns → padded z P y (x + z.columns) ≡ padded z P y x
+  unfolding padded
+  padded-round wraps y x h l = round-once z.columns_wrap wraps z.columns (lowered P y) x h l
 
-    pub rising-right : (w n y x : ℕ) → n ≤ w → MARGIN + columns + w ≤ x → rising (padded P) w n y x ≡ pos 0
-    rising-right w n y x few far = slope-zero (padded P) (on_right w x) (on_left w x) n y (λ m t t<. padded-right m (on_right w x t) (omega arith)) (λ m t t<. padded-right m (on_left w x t) (omega arith))
+  module _ (w n y x : ℕ) (few : n ≤ w) where
+    -- where columns clip, the slopes that rise reach nothing far on the right, and those that fall nothing far on the left
+    pub falling-left : T (not z.columns_wrap) → x + w < MARGIN → falling (padded z P) w n y x ≡ pos 0
+    falling-left clips far =
+        slope-zero (padded z P) (on_left w x) (on_right w x) n y (λ m t t<. padded-left clips m (on_left w x t) (omega arith)) (λ m t t<. padded-left clips m (on_right w x t) (omega arith))
+
+    pub rising-right : T (not z.columns_wrap) → ((m k : ℕ) → z.columns ≤ k → P m k ≡ pos 0) → MARGIN + z.columns + w ≤ x → rising (padded z P) w n y x ≡ pos 0
+    rising-right clips beside far =
+        slope-zero (padded z P) (on_right w x) (on_left w x) n y (λ m t t<. padded-right clips beside m (on_right w x t) (omega arith)) (λ m t t<. padded-right clips beside m (on_left w x t) (omega arith))
+
+    -- where they wrap, the slopes of a column are those of the column a row nearer
+    module _ (wraps : T z.columns_wrap) (left : MARGIN + w ≤ x + z.columns) (right : x + w < MARGIN + z.columns) (wide : w ≤ x) where
+      further-right : (m t : ℕ) → t < n → padded z P m (on_right w (x + z.columns) t) ≡ padded z P m (on_right w x t)
+      further-right m t t< =
+          let e : x + z.columns + w - t ≡ x + w - t + z.columns = omega arith in
+          ap (padded z P m) e ∙ padded-round wraps m (x + w - t) (omega arith) (omega arith)
+
+      further-left : (m t : ℕ) → t < n → padded z P m (on_left w (x + z.columns) t) ≡ padded z P m (on_left w x t)
+      further-left m t t< =
+          let e : x + z.columns + t - w ≡ x + t - w + z.columns = omega arith in
+          ap (padded z P m) e ∙ padded-round wraps m (x + t - w) (omega arith) (omega arith)
+
+      pub rising-round : rising (padded z P) w n y (x + z.columns) ≡ rising (padded z P) w n y x
+      rising-round = slope-same (padded z P) (on_right w (x + z.columns)) (on_left w (x + z.columns)) (on_right w x) (on_left w x) n y further-right further-left
+
+      pub falling-round : falling (padded z P) w n y (x + z.columns) ≡ falling (padded z P) w n y x
+      falling-round = slope-same (padded z P) (on_left w (x + z.columns)) (on_right w (x + z.columns)) (on_left w x) (on_right w x) n y further-left further-right

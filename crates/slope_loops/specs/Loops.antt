@@ -1,23 +1,51 @@
--- Rows of a plane among zeros, and the slopes of a window's edges as the code keeps them: ROW_LENGTH numbers each. In a row the picture's column 0 has
+-- Rows of a plane among zeros or wrapped cells, and the slopes of a window's edges as the code keeps them: ROW_LENGTH numbers each. In a row the picture's column 0 has
 -- place MARGIN; the place of a slope shifts from row to row. The length is required of each, since the laws are of lists, which do not know that they are arrays.
 -- Assumes nothing.
-use Rattle.std.specs.Prelude.{◌≡◌, ℕ, ◌+◌, ◌≤◌, ◌<◌, List, length, get_or, ℤ, pos, ◌+ℤ◌, ◌-ℤ◌}
+use Rattle.std.specs.Prelude.{◌≡◌, ℕ, ◌+◌, ◌-◌, ◌≤◌, ◌<◌, not, T, List, length, get_or, ℤ, pos, ◌+ℤ◌, ◌-ℤ◌}
 use Rattle.std.specs.Int.Signed.{mag}
 use Rattle.numbers.specs.Wrap.{wrap}
+use Rattle.spec_picture.specs.declared.Frame.{Frame}
+use Rattle.slope_loops.specs.Slopes.{padded}
 use Rattle.slope_loops.specs.declared.loops.GatherPlaces.{GatherPlaces}
 use Rattle.slope_loops.specs.declared.loops.SlidePlaces.{SlidePlaces}
 use Rattle.slope_loops.specs.declared.padding.TheConstants.{MARGIN, ROW_LENGTH}
 
--- a row of numbers that are 0 but for those at the picture's columns
-pub record Blank (buf : List ℤ) (columns : ℕ) : Type 0 where
+-- a row of numbers that, where columns clip, are 0 but for those at the picture's columns
+pub record Blank (z : Frame) (buf : List ℤ) : Type 0 where
   pub size : length buf ≡ ROW_LENGTH
-  pub low : (x : ℕ) → x < MARGIN → get_or buf x (pos 0) ≡ pos 0
-  pub high : (x : ℕ) → MARGIN + columns ≤ x → get_or buf x (pos 0) ≡ pos 0
+  pub low : T (not z.columns_wrap) → (x : ℕ) → x < MARGIN → get_or buf x (pos 0) ≡ pos 0
+  pub high : T (not z.columns_wrap) → (x : ℕ) → MARGIN + z.columns ≤ x → get_or buf x (pos 0) ≡ pos 0
 
--- a row of numbers that are those of F
-pub record Holds (buf : List ℤ) (F : ℕ → ℤ) : Type 0 where
+-- a row of numbers that are those of F at the picture's columns and `side` places beside them
+pub record Holds (z : Frame) (side : ℕ) (F : ℕ → ℤ) (buf : List ℤ) : Type 0 where
   pub size : length buf ≡ ROW_LENGTH
-  pub each : (x : ℕ) → get_or buf x (pos 0) ≡ F x
+  pub each : (x : ℕ) → MARGIN ≤ x + side → x < MARGIN + z.columns + side → get_or buf x (pos 0) ≡ F x
+
+-- A row whose places beside the picture's columns are to become those at its other end: a picture's columns, of which there are as many.
+pub record JoinRequires (columns side : ℕ) (buf : List ℤ) : Type 0 where
+  pub size : length buf ≡ ROW_LENGTH
+  pub few : columns ≤ 1024
+  pub within : side ≤ MARGIN
+  pub once : side ≤ columns
+
+-- they are, and the picture's columns are as they were
+pub record Joined (columns side : ℕ) (old now : List ℤ) : Type 0 where
+  pub size : length now ≡ ROW_LENGTH
+  pub middle : (x : ℕ) → MARGIN ≤ x → x < MARGIN + columns → get_or now x (pos 0) ≡ get_or old x (pos 0)
+  pub left : (x : ℕ) → MARGIN ≤ x + side → x < MARGIN → get_or now x (pos 0) ≡ get_or old (x + columns) (pos 0)
+  pub right : (x : ℕ) → MARGIN + columns ≤ x → x < MARGIN + columns + side → get_or now x (pos 0) ≡ get_or old (x - columns) (pos 0)
+
+-- a row to be loaded, and how many places beside the picture's columns
+pub record LoadRequires (z : Frame) (side : ℕ) (buf : List ℤ) : Type 0 where
+  pub blank : Blank z buf
+  pub few : z.columns ≤ 1024
+  pub within : side ≤ MARGIN
+  pub once : T z.columns_wrap → side ≤ z.columns
+
+-- it has row y of the padded plane
+pub record Loaded (z : Frame) (side : ℕ) (P : ℕ → ℕ → ℤ) (y : ℕ) (buf : List ℤ) : Type 0 where
+  pub blank : Blank z buf
+  pub holds : Holds z side (padded z P y) buf
 
 -- n numbers from place p on are at most m in size
 pub record AtMost (m : ℕ) (l : List ℤ) (p n : ℕ) : Type 0 where

@@ -2,5 +2,5 @@
 // are in `slope_rows`.
 #![tactic(auto)]
 
-pub mod padding; // padding.rt: rows of a plane among zeros
+pub mod padding; // padding.rt: rows of a plane among zeros or wrapped cells
 pub mod loops; // loops.rt: the loops

@@ -20,6 +20,7 @@ use Rattle.slope_loops.specs.Slopes.{edges_change}
 use Rattle.slope_loops.proofs.Parts.{change-parts}
 use Rattle.slope_rows.specs.declared.kept_slopes.SlantedInputs.{SlantedInputs}
 use Rattle.slope_rows.specs.Edges.{plane_in, edged}
+use Rattle.slope_rows.proofs.Windows.{apart-in}
 
 module _ (x : SlantedInputs) where
   abbrev z : Frame
@@ -39,7 +40,7 @@ module _ (x : SlantedInputs) where
       tabulate-cong z.columns (λ j. wrap (at work j +ℤ edges_change z P x.height x.width i j)) (λ j. wrap (at work j +ℤ work_change z P S i j))
       (λ j j<. ap (λ (v : ℤ). wrap (at work j +ℤ v))
       (ap₂ (λ (a b : ℕ). edges_change z P a b i j) f.high f.wide
-      ∙ sym (change-parts z P (plane-past source) (plane-beside source) S f.slanted (omega (arith, f.high, f.low, f.narrow)) (omega (arith, f.wide, f.narrow)) i j j<)))
+      ∙ sym (change-parts z P (plane-past source) (plane-beside source) S f.slanted (omega (arith, f.high, f.low, f.narrow)) (omega (arith, f.wide, f.narrow)) (rw f.wide at (apart-in x)) i j j<)))
 
   -- one row more after row i
   pub passed-more : (i m begin : ℕ) (before work out next part : List ℤ) → Partly z P S (suc i) before m work out → begin ≡ m * z.columns → begin + z.columns ≤ length out →

@@ -18,6 +18,7 @@ use Rattle.numbers.proofs.Grids.{tabulate-cong}
 use Rattle.numbers.proofs.Wraps.{wrap-small}
 use Rattle.numbers.proofs.Writes.{at, part_length}
 use Rattle.spec_picture.specs.declared.Frame.{Frame}
+use Rattle.spec_picture.specs.Frame.{Apart}
 use Rattle.spec_picture.specs.Window.{Shape, rectangle, slanted, shape_of, is_rectangle, height, width}
 use Rattle.spec_picture.specs.Picture.{Inputs, plane_at}
 use Rattle.spec_picture.specs.Direct.{window_sum, direct_sum}
@@ -44,33 +45,33 @@ module _ (first_sum : ℤ) (rises falls : List ℤ) where
   by-slopes-more j = sym (ap (sum_by_slopes first_sum rises falls) (add-one j))
 
 module _ (z : Frame) (P : ℕ → ℕ → ℤ) (past : (m n : ℕ) → z.rows ≤ m → P m n ≡ pos 0) (beside : (m n : ℕ) → z.columns ≤ n → P m n ≡ pos 0) (lim : InLimits z) (small : (m n : ℕ) → nat_abs (P m n) ≤ 2 ^ 30)
-    (s : Shape) (no-rectangle : is_rectangle s ≡ false) (low : height s ≤ 127) (narrow : width s ≤ 127) (some : 1 ≤ height s) (rises falls : List ℤ)
-    (kept : Slopes (padded P) z.columns (width s) (height s) ABOVE 0 rises falls) where
+    (s : Shape) (no-rectangle : is_rectangle s ≡ false) (low : height s ≤ 127) (narrow : width s ≤ 127) (apart : Apart z (width s)) (some : 1 ≤ height s) (rises falls : List ℤ)
+    (more : ℕ) (kept : Slopes (padded z P) z.columns more (width s) (height s) ABOVE 0 rises falls) where
   by-slopes-is : (j : ℕ) → j < z.columns → sum_by_slopes (window_sum z s P 0 0) rises falls j ≡ window_sum z s P 0 j
   unfolding sum_by_slopes
   by-slopes-is zero h = refl
   by-slopes-is (suc j) h =
       let right : j + RISING_START + SLOPE_SHIFT - 0 ≡ MARGIN + j = omega arith in
       let left : j + FALLING_START + 1 + 0 - SLOPE_SHIFT ≡ MARGIN + 1 + j = omega arith in
-      let enters = kept.rising_at (j + RISING_START) (omega arith) ∙ ap (rising (padded P) (width s) (height s) ABOVE) right in
-      let leaves = kept.falling_at (j + FALLING_START + 1) (omega arith) ∙ ap (falling (padded P) (width s) (height s) ABOVE) left in
-      ap wrap (ap₂ ◌+ℤ◌ (by-slopes-is j (omega arith)) (ap₂ ◌-ℤ◌ enters leaves) ∙ sym (first_step z P past beside s no-rectangle low narrow j (omega arith) some))
+      let enters = kept.rising_at (j + RISING_START) (omega arith) (omega arith) ∙ ap (rising (padded z P) (width s) (height s) ABOVE) right in
+      let leaves = kept.falling_at (j + FALLING_START + 1) (omega arith) (omega arith) ∙ ap (falling (padded z P) (width s) (height s) ABOVE) left in
+      ap wrap (ap₂ ◌+ℤ◌ (by-slopes-is j (omega arith)) (ap₂ ◌-ℤ◌ enters leaves) ∙ sym (first_step z P past beside s no-rectangle low narrow apart j h some))
       ∙ wrap-small (window_sum z s P 0 (suc j)) (omega (arith, window-fits z P lim small s 0 (suc j)))
 
   pub by-slopes-windows : tabulate z.columns (sum_by_slopes (window_sum z s P 0 0) rises falls) ≡ tabulate z.columns (window_sum z s P 0)
   by-slopes-windows = tabulate-cong z.columns (sum_by_slopes (window_sum z s P 0 0) rises falls) (window_sum z s P 0) by-slopes-is
 
 -- the work area of row 0, as a call makes it from the first sum and the slopes
-pub fresh-row : (x : Inputs) (c : Checked x) (no-rectangle : is_rectangle (shape_of x.window) ≡ false) (some : 1 ≤ height (shape_of x.window)) (rises falls before next : List ℤ) (first_sum : ℤ) (n : ℕ) →
-    Slopes (padded (plane_at x.source)) x.source.frame.columns (width (shape_of x.window)) (height (shape_of x.window)) ABOVE 0 rises falls →
+pub fresh-row : (x : Inputs) (c : Checked x) (no-rectangle : is_rectangle (shape_of x.window) ≡ false) (some : 1 ≤ height (shape_of x.window)) (rises falls before next : List ℤ) (first_sum : ℤ) (n more : ℕ) →
+    Slopes (padded x.source.frame (plane_at x.source)) x.source.frame.columns more (width (shape_of x.window)) (height (shape_of x.window)) ABOVE 0 rises falls → Apart x.source.frame (width (shape_of x.window)) →
     first_sum ≡ direct_sum x 0 0 → n ≡ x.source.frame.columns → next ≡ tabulate n (sum_by_slopes first_sum rises falls) → next ≡ work_after x.source.frame (plane_at x.source) (shape_of x.window) 0 before
 unfolding direct_sum
-fresh-row x c no-rectangle some rises falls before next first_sum n kept ec en e =
+fresh-row x c no-rectangle some rises falls before next first_sum n more kept apart ec en e =
     let z = x.source.frame in
     let P = plane_at x.source in
     e
     ∙ ap₂ (λ (m : ℕ) (v : ℤ). tabulate m (sum_by_slopes v rises falls)) en ec
-    ∙ by-slopes-windows z P (plane-past x.source) (plane-beside x.source) (in-limits z c.frame) (plane-bound x.source c.levels_f c.levels_g) (shape_of x.window) no-rectangle (height-small x.window c.window) (width_small x.window c.window) some rises falls kept
+    ∙ by-slopes-windows z P (plane-past x.source) (plane-beside x.source) (in-limits z c.frame) (plane-bound x.source c.levels_f c.levels_g) (shape_of x.window) no-rectangle (height-small x.window c.window) (width_small x.window c.window) apart some rises falls more kept
     ∙ go (shape_of x.window) no-rectangle
   where
     go : (s : Shape) → is_rectangle s ≡ false → tabulate x.source.frame.columns (window_sum x.source.frame s (plane_at x.source) 0) ≡ work_after x.source.frame (plane_at x.source) s 0 before

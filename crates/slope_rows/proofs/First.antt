@@ -5,17 +5,20 @@ use Prim.Native.Nat.{ℕ, zero, suc, ◌+◌, ◌-◌, ◌≤◌, ◌<◌, min}
 use native.Mathlib.Omega.{arith}
 use native.Mathlib.Decide.{dec_lt}
 use mathlib.Core.Bool.{false}
-use lib.Dec.{leb, ltb, leb→le, le→leb}
+use lib.Dec.{leb, ltb, le→leb}
 use lib.IntN.{ℤ, pos, ◌+ℤ◌, ◌-ℤ◌}
 use Rattle.numbers.specs.Sum.{sum_to, pick}
 use Rattle.numbers.proofs.Linear.{any, sums, ring}
-use Rattle.numbers.proofs.Sums.{sum-cong, sum-none, sum-add, sum-sub, sum-prefix, pick_yes, pick_no, pick-in, pick_out, near_step}
+use Rattle.numbers.proofs.Sums.{sum-cong, sum-none, sum-add, sum-sub, sum-prefix, pick_yes, pick-in, pick_out}
 use Rattle.spec_picture.specs.declared.Frame.{Frame}
+use Rattle.spec_picture.specs.Frame.{Apart}
 use Rattle.spec_picture.specs.Window.{Shape, is_rectangle, height, reach, width}
 use Rattle.spec_picture.specs.Direct.{window_sum}
 use Rattle.spec_picture.proofs.Windows.{height-width, reach-slanted}
-use Rattle.slope_loops.specs.Slopes.{padded, edge_slopes, rising, falling}
-use Rattle.slope_loops.proofs.Moves.{padded-cell, padded-above, padded-left, padded-right}
+use Rattle.slope_loops.specs.Slopes.{lowered, beside_row, padded, edge_slopes, rising, falling}
+use Rattle.slope_loops.proofs.BesideRow.{beside-cong, beside-zero}
+use Rattle.slope_loops.proofs.Moves.{padded-above}
+use Rattle.slope_rows.proofs.NextColumn.{near-next}
 use Rattle.row_steps.proofs.Columns.{reached, window-0}
 use Rattle.slope_loops.specs.declared.padding.TheConstants.{ABOVE, MARGIN}
 
@@ -49,37 +52,19 @@ sum-upto a b f e =
 
 module _ (z : Frame) (P : ℕ → ℕ → ℤ) (past : (m n : ℕ) → z.rows ≤ m → P m n ≡ pos 0) (beside : (m n : ℕ) → z.columns ≤ n → P m n ≡ pos 0) where
   abbrev Q : ℕ → ℕ → ℤ
-  Q = padded P
+  Q = padded z P
+
+  -- row m of the plane, among zeros or wrapped cells
+  row-is : (m x : ℕ) → beside_row z.columns_wrap z.columns (P m) x ≡ Q (ABOVE + m) x
+  unfolding padded
+  row-is m x =
+      let e : ABOVE + m - ABOVE ≡ m = omega arith in
+      beside-cong z.columns_wrap z.columns (P m) (lowered P (ABOVE + m)) (λ n. sym (pick_yes (leb ABOVE (ABOVE + m)) (P (ABOVE + m - ABOVE) n) (le→leb ABOVE (ABOVE + m) (omega arith)) ∙ ap (λ (k : ℕ). P k n) e)) x
 
   padded-past : (m x : ℕ) → z.rows ≤ m → Q (ABOVE + m) x ≡ pos 0
-  padded-past m x h = go (dec_lt x MARGIN)
-    where
-      go : Dec (x < MARGIN) → Q (ABOVE + m) x ≡ pos 0
-      go (yes l) = padded-left P (ABOVE + m) x l
-      go (no l) =
-          let e : MARGIN + (x - MARGIN) ≡ x = omega arith in
-          sym (ap (Q (ABOVE + m)) e) ∙ padded-cell P m (x - MARGIN) ∙ past m (x - MARGIN) h
+  padded-past m x h = sym (row-is m x) ∙ beside-zero z.columns_wrap z.columns (P m) (λ n. past m n h) x
 
-  -- ---- one row, from column j to j+1, as far as k to both sides
-  on-right : (m k j : ℕ) → pick (ltb (suc j + k) z.columns) (P m (suc j + k)) ≡ Q (ABOVE + m) (MARGIN + 1 + j + k)
-  on-right m k j = go (dec_lt (suc j + k) z.columns)
-    where
-      go : Dec (suc j + k < z.columns) → pick (ltb (suc j + k) z.columns) (P m (suc j + k)) ≡ Q (ABOVE + m) (MARGIN + 1 + j + k)
-      go (yes h) =
-          let e : MARGIN + (suc j + k) ≡ MARGIN + 1 + j + k = omega arith in
-          pick-in (suc j + k) z.columns (P m (suc j + k)) h ∙ sym (padded-cell P m (suc j + k)) ∙ ap (Q (ABOVE + m)) e
-      go (no h) = pick_out (suc j + k) z.columns (P m (suc j + k)) (omega arith) ∙ sym (padded-right P z.columns beside (ABOVE + m) (MARGIN + 1 + j + k) (omega arith))
-
-  on-left : (m k j : ℕ) → k ≤ MARGIN → j < z.columns → pick (leb k j) (pick (ltb (j - k) z.columns) (P m (j - k))) ≡ Q (ABOVE + m) (MARGIN + j - k)
-  on-left m k j l j< = go (dec_lt j k)
-    where
-      go : Dec (j < k) → pick (leb k j) (pick (ltb (j - k) z.columns) (P m (j - k))) ≡ Q (ABOVE + m) (MARGIN + j - k)
-      go (yes h) = pick_no (leb k j) (pick (ltb (j - k) z.columns) (P m (j - k))) (λ t. omega (arith, leb→le k j t)) ∙ sym (padded-left P (ABOVE + m) (MARGIN + j - k) (omega arith))
-      go (no h) =
-          let e : MARGIN + (j - k) ≡ MARGIN + j - k = omega arith in
-          pick_yes (leb k j) (pick (ltb (j - k) z.columns) (P m (j - k))) (le→leb k j (omega arith)) ∙ pick-in (j - k) z.columns (P m (j - k)) (omega arith) ∙ sym (padded-cell P m (j - k)) ∙ ap (Q (ABOVE + m)) e
-
-  module _ (s : Shape) (no-rectangle : is_rectangle s ≡ false) (low : height s ≤ 127) (narrow : width s ≤ 127) (j : ℕ) (j< : j < z.columns) where
+  module _ (s : Shape) (no-rectangle : is_rectangle s ≡ false) (low : height s ≤ 127) (narrow : width s ≤ 127) (apart : Apart z (width s)) (j : ℕ) (j< : suc j < z.columns) where
     abbrev h : ℕ
     h = height s
 
@@ -97,13 +82,13 @@ module _ (z : Frame) (P : ℕ → ℕ → ℤ) (past : (m n : ℕ) → z.rows �
     row_step t l =
         let k : reach s t ≡ w - t = reach-slanted s no-rectangle t in
         let wide : h ≤ w = height-width s no-rectangle in
-        let right : MARGIN + 1 + j + (w - t) ≡ MARGIN + 1 + j + w - t = omega arith in
+        let right : MARGIN + suc j + (w - t) ≡ MARGIN + 1 + j + w - t = omega arith in
         let left : MARGIN + j - (w - t) ≡ MARGIN + j + t - w = omega arith in
-        near_step z.columns j (reach s t) (P t)
+        near-next z j (reach s t) (P t) j< (beside t) (omega (arith, k)) (λ v. omega (arith, k, apart v))
         ∙ ap (λ (v : ℤ). reached z P s t j +ℤ v)
         (ap₂ ◌-ℤ◌
-        (on-right t (reach s t) j ∙ ap (λ (q : ℕ). Q (ABOVE + t) (MARGIN + 1 + j + q)) k ∙ ap (Q (ABOVE + t)) right)
-        (on-left t (reach s t) j (omega (arith, k)) j< ∙ ap (λ (q : ℕ). Q (ABOVE + t) (MARGIN + j - q)) k ∙ ap (Q (ABOVE + t)) left))
+        (row-is t (MARGIN + suc j + reach s t) ∙ ap (λ (q : ℕ). Q (ABOVE + t) (MARGIN + suc j + q)) k ∙ ap (Q (ABOVE + t)) right)
+        (row-is t (MARGIN + j - reach s t) ∙ ap (λ (q : ℕ). Q (ABOVE + t) (MARGIN + j - q)) k ∙ ap (Q (ABOVE + t)) left))
 
     rows_step : window_sum z s P 0 (suc j) ≡ window_sum z s P 0 j +ℤ sum_to (suc h) (λ t. enters t -ℤ leaves t)
     rows_step =
@@ -123,7 +108,7 @@ module _ (z : Frame) (P : ℕ → ℕ → ℤ) (past : (m n : ℕ) → z.rows �
         sum-sub h (λ t. Q (ABOVE + 1 + t) (MARGIN + j + w - t)) (λ t. Q (ABOVE - t) (MARGIN + j + t - w))
         ∙ ap₂ ◌-ℤ◌
         (sum-cong h (λ t. Q (ABOVE + 1 + t) (MARGIN + j + w - t)) (λ t. enters (suc t)) (λ t t<. ap₂ Q (omega arith) (omega arith)))
-        (only-first h (λ t. Q (ABOVE - t) (MARGIN + j + t - w)) some (λ t l. padded-above P (ABOVE - t) (MARGIN + j + t - w) (omega arith)) ∙ ap₂ Q (omega arith) (omega arith))
+        (only-first h (λ t. Q (ABOVE - t) (MARGIN + j + t - w)) some (λ t l. padded-above z P (ABOVE - t) (MARGIN + j + t - w) (omega arith)) ∙ ap₂ Q (omega arith) (omega arith))
 
     falling-is : 1 ≤ h → falling Q w h ABOVE (MARGIN + 1 + j) ≡ sum_to h (λ t. leaves (suc t)) -ℤ enters 0
     unfolding edge_slopes
@@ -131,7 +116,7 @@ module _ (z : Frame) (P : ℕ → ℕ → ℤ) (past : (m n : ℕ) → z.rows �
         sum-sub h (λ t. Q (ABOVE + 1 + t) (MARGIN + 1 + j + t - w)) (λ t. Q (ABOVE - t) (MARGIN + 1 + j + w - t))
         ∙ ap₂ ◌-ℤ◌
         (sum-cong h (λ t. Q (ABOVE + 1 + t) (MARGIN + 1 + j + t - w)) (λ t. leaves (suc t)) (λ t t<. ap₂ Q (omega arith) (omega arith)))
-        (only-first h (λ t. Q (ABOVE - t) (MARGIN + 1 + j + w - t)) some (λ t l. padded-above P (ABOVE - t) (MARGIN + 1 + j + w - t) (omega arith)) ∙ ap₂ Q (omega arith) (omega arith))
+        (only-first h (λ t. Q (ABOVE - t) (MARGIN + 1 + j + w - t)) some (λ t l. padded-above z P (ABOVE - t) (MARGIN + 1 + j + w - t) (omega arith)) ∙ ap₂ Q (omega arith) (omega arith))
 
     regrouped : (c cs g gs : ℤ) → (c +ℤ cs) -ℤ (g +ℤ gs) ≡ (cs -ℤ g) -ℤ (gs -ℤ c)
     regrouped c cs g gs = ring (search (sums, any c, any cs, any g, any gs) depth 12) (omega arith)

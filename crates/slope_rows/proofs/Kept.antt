@@ -22,7 +22,7 @@ use Rattle.slope_loops.specs.declared.loops.GatherPlaces.{GatherPlaces}
 use Rattle.slope_loops.specs.declared.loops.SlidePlaces.{SlidePlaces}
 use Rattle.slope_loops.specs.Slopes.{padded, edge_slopes, on_right, on_left, rising, falling, edges_change}
 use Rattle.slope_loops.proofs.LoopLaws.{replaced-all}
-use Rattle.slope_loops.proofs.Moves.{padded-left, padded-right, slope_none, slope-more, slope_bound, rising_step, falling-step, rising-right, falling-left}
+use Rattle.slope_loops.proofs.Moves.{slope_none, slope-more, slope_bound, rising_step, falling-step}
 use Rattle.slope_loops.proofs.Parts.{tips}
 use Rattle.slope_loops.specs.Loops.{Blank, Holds, AtMost, Replaced, gathered, slid, slopes_added, tips_added}
 use Rattle.slope_rows.specs.Edges.{Slopes}
@@ -36,15 +36,15 @@ zero-at : (n x : ℕ) → Dec (x < n) → at (replicate n (pos 0)) x ≡ pos 0
 zero-at n x (yes l) = get_or-replicate n x (pos 0) (pos 0) l
 zero-at n x (no l) = get_or_past (replicate n (pos 0)) x (pos 0) (omega (arith, length-replicate n (pos 0)))
 
-pub zeros-blank : (n columns : ℕ) → n ≡ ROW_LENGTH → Blank (replicate n (pos 0)) columns
-zeros-blank n columns e = record { size = length-replicate n (pos 0) ∙ e; low = λ x l. zero-at n x (dec_lt x n); high = λ x l. zero-at n x (dec_lt x n) }
+pub zeros-blank : (n : ℕ) (z : Frame) → n ≡ ROW_LENGTH → Blank z (replicate n (pos 0))
+zeros-blank n z e = record { size = length-replicate n (pos 0) ∙ e; low = λ c x l. zero-at n x (dec_lt x n); high = λ c x l. zero-at n x (dec_lt x n) }
 
-pub zeros-slopes : (Q : ℕ → ℕ → ℤ) (columns w y n : ℕ) → n ≡ ROW_LENGTH → Slopes Q columns w 0 y 0 (replicate n (pos 0)) (replicate n (pos 0))
-zeros-slopes Q columns w y n e = record {
+pub zeros-slopes : (Q : ℕ → ℕ → ℤ) (columns more w y n : ℕ) → n ≡ ROW_LENGTH → Slopes Q columns more w 0 y 0 (replicate n (pos 0)) (replicate n (pos 0))
+zeros-slopes Q columns more w y n e = record {
   length_rises = length-replicate n (pos 0) ∙ e;
   length_falls = length-replicate n (pos 0) ∙ e;
-  rising_at = λ s l. zero-at n s (dec_lt s n) ∙ sym (slope_none Q (on_right w (s + SLOPE_SHIFT - 0)) (on_left w (s + SLOPE_SHIFT - 0)) y);
-  falling_at = λ s l. zero-at n s (dec_lt s n) ∙ sym (slope_none Q (on_left w (s + 0 - SLOPE_SHIFT)) (on_right w (s + 0 - SLOPE_SHIFT)) y);
+  rising_at = λ s l k. zero-at n s (dec_lt s n) ∙ sym (slope_none Q (on_right w (s + SLOPE_SHIFT - 0)) (on_left w (s + SLOPE_SHIFT - 0)) y);
+  falling_at = λ s l k. zero-at n s (dec_lt s n) ∙ sym (slope_none Q (on_left w (s + 0 - SLOPE_SHIFT)) (on_right w (s + 0 - SLOPE_SHIFT)) y);
 }
 
 -- ---- how large they are
@@ -53,123 +53,115 @@ mag-size (pos n) = omega arith
 mag-size (negsuc n) = omega arith
 
 module _ (Q : ℕ → ℕ → ℤ) (B : ℕ) (small : (y x : ℕ) → nat_abs (Q y x) ≤ B) where
-  pub within-row : (a : List ℤ) (y M p n : ℕ) → B ≤ M → Holds a (Q y) → AtMost M a p n
-  within-row a y M p n l u = record { each = λ x x<. rw (u.each (x + p)) (omega (arith, mag-size (Q y (x + p)), small y (x + p))) }
+  pub within-row : (z : Frame) (reach : ℕ) (a : List ℤ) (y M p n : ℕ) → B ≤ M → Holds z reach (Q y) a → MARGIN ≤ p + reach → p + n ≤ MARGIN + z.columns + reach → AtMost M a p n
+  within-row z reach a y M p n l u from to = record { each = λ x x<. rw (u.each (x + p) (omega arith) (omega arith)) (omega (arith, mag-size (Q y (x + p)), small y (x + p))) }
 
-  module _ (columns w n y m : ℕ) (rises falls : List ℤ) (l : Slopes Q columns w n y m rises falls) (M p count : ℕ) (large : n * (2 * B) ≤ M) where
+  module _ (columns more w n y m : ℕ) (rises falls : List ℤ) (l : Slopes Q columns more w n y m rises falls) (M p count : ℕ) (large : n * (2 * B) ≤ M) where
     within_slope : (lower upper : ℕ → ℕ) (v : ℤ) → v ≡ edge_slopes Q lower upper n y → mag v ≤ M
     within_slope lower upper v e = rw e (omega (arith, mag-size (edge_slopes Q lower upper n y), slope_bound Q lower upper B small n y))
 
-    pub within-rises : RISING_START + m ≤ p → AtMost M rises p count
-    within-rises h = record { each = λ x x<. within_slope _ _ _ (l.rising_at (x + p) (omega arith)) }
+    pub within-rises : RISING_START + m ≤ p → p + count ≤ RISING_START + m + columns + more → AtMost M rises p count
+    within-rises h k = record { each = λ x x<. within_slope _ _ _ (l.rising_at (x + p) (omega arith) (omega arith)) }
 
-    pub within-falls : p + count + m ≤ FALLING_START + columns → AtMost M falls p count
-    within-falls h = record { each = λ x x<. within_slope _ _ _ (l.falling_at (x + p) (omega arith)) }
+    pub within-falls : FALLING_START ≤ p + m + more → p + count + m ≤ FALLING_START + columns → AtMost M falls p count
+    within-falls h k = record { each = λ x x<. within_slope _ _ _ (l.falling_at (x + p) (omega arith) (omega arith)) }
 
 -- ---- what the loops make of the slopes of a column, whichever way they go
-module _ (Q : ℕ → ℕ → ℤ) where
-  held : {a : List ℤ} {y : ℕ} (k : ℕ) {c : ℕ} → Holds a (Q y) → k ≡ c → at a k ≡ Q y c
-  held {y = y} k u e = u.each k ∙ ap (Q y) e
+module _ (z : Frame) (reach : ℕ) (Q : ℕ → ℕ → ℤ) where
+  -- a place of a row that the loops reach
+  abbrev Near : ℕ → Type 0
+  Near k = (MARGIN ≤ k + reach) × (k < MARGIN + z.columns + reach)
+
+  held : {a : List ℤ} {y : ℕ} (k : ℕ) {c : ℕ} → Holds z reach (Q y) a → Near k → k ≡ c → at a k ≡ Q y c
+  held {y = y} k u n e = u.each k n.0 n.1 ∙ ap (Q y) e
 
   -- a cell more of each edge
-  gathered-more : (lower upper : ℕ → ℕ) (n y x : ℕ) {a b : List ℤ} (sums : List ℤ) (places : GatherPlaces) → Holds a (Q (y + 1 + n)) → Holds b (Q (y - n)) → at sums (x + places.sums) ≡ edge_slopes Q lower upper n y →
+  gathered-more : (lower upper : ℕ → ℕ) (n y x : ℕ) {a b : List ℤ} (sums : List ℤ) (places : GatherPlaces) → Holds z reach (Q (y + 1 + n)) a → Holds z reach (Q (y - n)) b → at sums (x + places.sums) ≡ edge_slopes Q lower upper n y →
+      Near (x + places.enters) → Near (x + places.leaves) →
       x + places.enters ≡ lower n → x + places.leaves ≡ upper n → gathered a b places sums x ≡ edge_slopes Q lower upper (n + 1) y
-  gathered-more lower upper n y x sums places enters leaves e p q = ap₂ ◌+ℤ◌ e (ap₂ ◌-ℤ◌ (held (x + places.enters) enters p) (held (x + places.leaves) leaves q)) ∙ sym (slope-more Q lower upper n y)
+  gathered-more lower upper n y x sums places enters leaves e i j p q =
+      ap₂ ◌+ℤ◌ e (ap₂ ◌-ℤ◌ (held (x + places.enters) enters i p) (held (x + places.leaves) leaves j q)) ∙ sym (slope-more Q lower upper n y)
 
   -- a new cell of each edge, and one that is gone
   slid-is : (n y x : ℕ) {a b c : List ℤ} (sums : List ℤ) {old : ℤ} {lower_new lower_gone upper_new upper_gone : ℕ} (places : SlidePlaces) →
-      Holds a (Q (y + 1 + n)) → Holds b (Q (y + 1)) → Holds c (Q (y + 1 - n)) → at sums (x + places.sums) ≡ old →
+      Holds z reach (Q (y + 1 + n)) a → Holds z reach (Q (y + 1)) b → Holds z reach (Q (y + 1 - n)) c → at sums (x + places.sums) ≡ old →
+      Near (x + places.lower_new) × Near (x + places.lower_gone) × Near (x + places.upper_new) × Near (x + places.upper_gone) →
       x + places.lower_new ≡ lower_new → x + places.lower_gone ≡ lower_gone → x + places.upper_new ≡ upper_new → x + places.upper_gone ≡ upper_gone →
       slid a b c places sums x ≡ old +ℤ (Q (y + 1 + n) lower_new -ℤ Q (y + 1) lower_gone) -ℤ (Q (y + 1) upper_new -ℤ Q (y + 1 - n) upper_gone)
-  slid-is n y x sums places lower middle upper e p q r s =
-      ap₂ ◌-ℤ◌ (ap₂ ◌+ℤ◌ e (ap₂ ◌-ℤ◌ (held (x + places.lower_new) lower p) (held (x + places.lower_gone) middle q))) (ap₂ ◌-ℤ◌ (held (x + places.upper_new) middle r) (held (x + places.upper_gone) upper s))
+  slid-is n y x sums places lower middle upper e i p q r s =
+      ap₂ ◌-ℤ◌ (ap₂ ◌+ℤ◌ e (ap₂ ◌-ℤ◌ (held (x + places.lower_new) lower i.0 p) (held (x + places.lower_gone) middle i.1 q))) (ap₂ ◌-ℤ◌ (held (x + places.upper_new) middle i.2 r) (held (x + places.upper_gone) upper i.3 s))
 
--- ---- a plane among zeros
-module _ (P : ℕ → ℕ → ℤ) (columns : ℕ) (beside : (m n : ℕ) → columns ≤ n → P m n ≡ pos 0) where
-  abbrev Q : ℕ → ℕ → ℤ
-  Q = padded P
-
-  pub blank_of : (a : List ℤ) (y : ℕ) → Holds a (Q y) → Blank a columns
-  blank_of a y u = record { size = u.size; low = λ x l. u.each x ∙ padded-left P y x l; high = λ x l. u.each x ∙ padded-right P columns beside y x l }
+-- ---- where slopes are kept of so many columns beside the picture's
+module _ (z : Frame) (Q : ℕ → ℕ → ℤ) (w beside : ℕ) (narrow : w ≤ 127) (kept : beside ≤ w) where
+  abbrev reach : ℕ
+  reach = w + beside + 1
 
   -- one cell more of each slope
-  module _ (w i t : ℕ) {a b rises falls rises_next falls_next : List ℤ} (up down : GatherPlaces) (narrow : w ≤ 127) (few : t < w)
-      (ru : RisingCells MARGIN (w - t) up) (rd : FallingCells (MARGIN - w) (w - t) down)
-      (lower : Holds a (Q (ABOVE + i + 1 + t))) (upper : Holds b (Q (ABOVE + i - t))) (l : Slopes Q columns w t (ABOVE + i) 0 rises falls)
-      (u : Replaced (gathered a b up rises) rises rises_next up.sums (columns + w))
-      (v : Replaced (gathered a b down falls) falls falls_next down.sums (columns + w)) where
-    pub slopes-cell : Slopes Q columns w (t + 1) (ABOVE + i) 0 rises_next falls_next
+  module _ (i t : ℕ) {a b rises falls rises_next falls_next : List ℤ} (up down : GatherPlaces) (few : t < w)
+      (ru : RisingCells MARGIN (w - t) up) (rd : FallingCells (MARGIN - beside) (w - t) down)
+      (lower : Holds z reach (Q (ABOVE + i + 1 + t)) a) (upper : Holds z reach (Q (ABOVE + i - t)) b) (l : Slopes Q z.columns beside w t (ABOVE + i) 0 rises falls)
+      (u : Replaced (gathered a b up rises) rises rises_next up.sums (z.columns + beside))
+      (v : Replaced (gathered a b down falls) falls falls_next down.sums (z.columns + beside)) where
+    pub slopes-cell : Slopes Q z.columns beside w (t + 1) (ABOVE + i) 0 rises_next falls_next
     slopes-cell = record {
       length_rises = u.size;
       length_falls = v.size;
-      rising_at = λ s h. replaced-all u (λ p. rising Q w (t + 1) (ABOVE + i) (p + SLOPE_SHIFT - 0))
-          (λ x x<. gathered-more Q (on_right w (x + up.sums + SLOPE_SHIFT - 0)) (on_left w (x + up.sums + SLOPE_SHIFT - 0)) t (ABOVE + i) x rises up lower upper (l.rising_at (x + up.sums) (omega (arith, ru.sums))) (omega (arith, ru.sums, ru.enters)) (omega (arith, ru.sums, ru.leaves)))
-          s (λ before. absurd (omega (arith, ru.sums)))
-          (λ after. l.rising_at s (omega arith)
-          ∙ rising-right P columns beside w t (ABOVE + i) (s + SLOPE_SHIFT - 0) (omega arith) (omega (arith, ru.sums))
-          ∙ sym (rising-right P columns beside w (t + 1) (ABOVE + i) (s + SLOPE_SHIFT - 0) (omega arith) (omega (arith, ru.sums))));
-      falling_at = λ s h. replaced-all v (λ p. falling Q w (t + 1) (ABOVE + i) (p + 0 - SLOPE_SHIFT))
-          (λ x x<. gathered-more Q (on_left w (x + down.sums + 0 - SLOPE_SHIFT)) (on_right w (x + down.sums + 0 - SLOPE_SHIFT)) t (ABOVE + i) x falls down lower upper (l.falling_at (x + down.sums) (omega (arith, rd.sums))) (omega (arith, rd.sums, rd.enters)) (omega (arith, rd.sums, rd.leaves)))
-          s
-          (λ before. l.falling_at s (omega arith)
-          ∙ falling-left P w t (ABOVE + i) (s + 0 - SLOPE_SHIFT) (omega arith) (omega (arith, rd.sums))
-          ∙ sym (falling-left P w (t + 1) (ABOVE + i) (s + 0 - SLOPE_SHIFT) (omega arith) (omega (arith, rd.sums))))
-          (λ after. absurd (omega (arith, rd.sums)));
+      rising_at = λ s h k. replaced-all u (λ p. rising Q w (t + 1) (ABOVE + i) (p + SLOPE_SHIFT - 0))
+          (λ x x<. gathered-more z reach Q (on_right w (x + up.sums + SLOPE_SHIFT - 0)) (on_left w (x + up.sums + SLOPE_SHIFT - 0)) t (ABOVE + i) x rises up lower upper (l.rising_at (x + up.sums) (omega (arith, ru.sums)) (omega (arith, ru.sums)))
+          (omega (arith, ru.enters), omega (arith, ru.enters)) (omega (arith, ru.leaves), omega (arith, ru.leaves)) (omega (arith, ru.sums, ru.enters)) (omega (arith, ru.sums, ru.leaves)))
+          s (λ before. absurd (omega (arith, ru.sums))) (λ after. absurd (omega (arith, ru.sums)));
+      falling_at = λ s h k. replaced-all v (λ p. falling Q w (t + 1) (ABOVE + i) (p + 0 - SLOPE_SHIFT))
+          (λ x x<. gathered-more z reach Q (on_left w (x + down.sums + 0 - SLOPE_SHIFT)) (on_right w (x + down.sums + 0 - SLOPE_SHIFT)) t (ABOVE + i) x falls down lower upper (l.falling_at (x + down.sums) (omega (arith, rd.sums)) (omega (arith, rd.sums)))
+          (omega (arith, rd.enters), omega (arith, rd.enters)) (omega (arith, rd.leaves), omega (arith, rd.leaves)) (omega (arith, rd.sums, rd.enters)) (omega (arith, rd.sums, rd.leaves)))
+          s (λ before. absurd (omega (arith, rd.sums))) (λ after. absurd (omega (arith, rd.sums)));
     }
 
-  -- the slopes of the next row
-  module _ (w h i m : ℕ) {a b c rises falls rises_next falls_next : List ℤ} (up down : SlidePlaces) (narrow : w ≤ 127) (low : h ≤ w) (turn : m ≤ 254)
-      (ru : RisingPlaces MARGIN (m + 1) w (w - h) up) (rd : FallingPlaces (MARGIN - w) (m + 1) w (w - h) down)
-      (lower : Holds a (Q (ABOVE + i + 1 + h))) (middle : Holds b (Q (ABOVE + i + 1))) (upper : Holds c (Q (ABOVE + i + 1 - h))) (l : Slopes Q columns w h (ABOVE + i) m rises falls)
-      (u : Replaced (slid a b c up rises) rises rises_next up.sums (columns + w))
-      (v : Replaced (slid a b c down falls) falls falls_next down.sums (columns + w)) where
-    rises_next-is : (x : ℕ) → slid a b c up rises x ≡ rising Q w h (ABOVE + i + 1) (x + up.sums + SLOPE_SHIFT - (m + 1))
-    rises_next-is x =
+  -- the slopes of the next row, where one more of each has come in
+  module _ (h i m : ℕ) {a b c rises falls rises_next falls_next : List ℤ} (up down : SlidePlaces) (low : h ≤ w) (turn : m ≤ 254)
+      (ru : RisingPlaces MARGIN (m + 1) w (w - h) up) (rd : FallingPlaces (MARGIN - beside) (m + 1) w (w - h) down)
+      (lower : Holds z reach (Q (ABOVE + i + 1 + h)) a) (middle : Holds z reach (Q (ABOVE + i + 1)) b) (upper : Holds z reach (Q (ABOVE + i + 1 - h)) c) (l : Slopes Q z.columns (beside + 1) w h (ABOVE + i) m rises falls)
+      (u : Replaced (slid a b c up rises) rises rises_next up.sums (z.columns + beside))
+      (v : Replaced (slid a b c down falls) falls falls_next down.sums (z.columns + beside)) where
+    rises_next-is : (x : ℕ) → x < z.columns + beside → slid a b c up rises x ≡ rising Q w h (ABOVE + i + 1) (x + up.sums + SLOPE_SHIFT - (m + 1))
+    rises_next-is x x< =
         let e : x + up.sums + SLOPE_SHIFT - m ≡ x + up.sums + SLOPE_SHIFT - (m + 1) + 1 = omega (arith, ru.sums) in
-        slid-is Q h (ABOVE + i) x rises up lower middle upper (l.rising_at (x + up.sums) (omega (arith, ru.sums)) ∙ ap (rising Q w h (ABOVE + i)) e)
+        slid-is z reach Q h (ABOVE + i) x rises up lower middle upper (l.rising_at (x + up.sums) (omega (arith, ru.sums)) (omega (arith, ru.sums)) ∙ ap (rising Q w h (ABOVE + i)) e)
+        ((omega (arith, ru.lower_new), omega (arith, ru.lower_new)), (omega (arith, ru.lower_gone), omega (arith, ru.lower_gone)), (omega (arith, ru.upper_new), omega (arith, ru.upper_new)), (omega (arith, ru.upper_gone), omega (arith, ru.upper_gone)))
         (omega (arith, ru.sums, ru.lower_new)) (omega (arith, ru.sums, ru.lower_gone)) (omega (arith, ru.sums, ru.upper_new)) (omega (arith, ru.sums, ru.upper_gone))
         ∙ sym (rising_step Q w h low (ABOVE + i) (x + up.sums + SLOPE_SHIFT - (m + 1)) (omega (arith, ru.sums)) (omega arith))
 
-    falls_next-is : (x : ℕ) → x < columns + w → slid a b c down falls x ≡ falling Q w h (ABOVE + i + 1) (x + down.sums + (m + 1) - SLOPE_SHIFT)
+    falls_next-is : (x : ℕ) → x < z.columns + beside → slid a b c down falls x ≡ falling Q w h (ABOVE + i + 1) (x + down.sums + (m + 1) - SLOPE_SHIFT)
     falls_next-is x x< =
         let e : x + down.sums + (m + 1) - SLOPE_SHIFT ≡ x + down.sums + m - SLOPE_SHIFT + 1 = omega (arith, rd.sums) in
-        slid-is Q h (ABOVE + i) x falls down lower middle upper (l.falling_at (x + down.sums) (omega (arith, rd.sums)))
+        slid-is z reach Q h (ABOVE + i) x falls down lower middle upper (l.falling_at (x + down.sums) (omega (arith, rd.sums)) (omega (arith, rd.sums)))
+        ((omega (arith, rd.lower_new), omega (arith, rd.lower_new)), (omega (arith, rd.lower_gone), omega (arith, rd.lower_gone)), (omega (arith, rd.upper_new), omega (arith, rd.upper_new)), (omega (arith, rd.upper_gone), omega (arith, rd.upper_gone)))
         (omega (arith, rd.sums, rd.lower_new)) (omega (arith, rd.sums, rd.lower_gone)) (omega (arith, rd.sums, rd.upper_new)) (omega (arith, rd.sums, rd.upper_gone))
         ∙ sym (falling-step Q w h low (ABOVE + i) (x + down.sums + m - SLOPE_SHIFT) (omega (arith, rd.sums)) (omega arith))
         ∙ ap (falling Q w h (ABOVE + i + 1)) (sym e)
 
-    pub slopes-next : Slopes Q columns w h (ABOVE + i + 1) (m + 1) rises_next falls_next
+    pub slopes-next : Slopes Q z.columns beside w h (ABOVE + i + 1) (m + 1) rises_next falls_next
     slopes-next = record {
       length_rises = u.size;
       length_falls = v.size;
-      rising_at = λ s p. replaced-all u (λ q. rising Q w h (ABOVE + i + 1) (q + SLOPE_SHIFT - (m + 1))) (λ x x<. rises_next-is x)
-          s (λ before. absurd (omega (arith, ru.sums)))
-          (λ after. l.rising_at s (omega arith)
-          ∙ rising-right P columns beside w h (ABOVE + i) (s + SLOPE_SHIFT - m) low (omega (arith, ru.sums))
-          ∙ sym (rising-right P columns beside w h (ABOVE + i + 1) (s + SLOPE_SHIFT - (m + 1)) low (omega (arith, ru.sums))));
-      falling_at = λ s p. replaced-all v (λ q. falling Q w h (ABOVE + i + 1) (q + (m + 1) - SLOPE_SHIFT)) falls_next-is
-          s
-          (λ before. l.falling_at s (omega arith)
-          ∙ falling-left P w h (ABOVE + i) (s + m - SLOPE_SHIFT) low (omega (arith, rd.sums))
-          ∙ sym (falling-left P w h (ABOVE + i + 1) (s + (m + 1) - SLOPE_SHIFT) low (omega (arith, rd.sums))))
-          (λ after. absurd (omega (arith, rd.sums)));
+      rising_at = λ s p q. replaced-all u (λ k. rising Q w h (ABOVE + i + 1) (k + SLOPE_SHIFT - (m + 1))) rises_next-is s (λ before. absurd (omega (arith, ru.sums))) (λ after. absurd (omega (arith, ru.sums)));
+      falling_at = λ s p q. replaced-all v (λ k. falling Q w h (ABOVE + i + 1) (k + (m + 1) - SLOPE_SHIFT)) falls_next-is s (λ before. absurd (omega (arith, rd.sums))) (λ after. absurd (omega (arith, rd.sums)));
     }
 
 -- ---- what a row of a call adds to the work area
-module _ (z : Frame) (P : ℕ → ℕ → ℤ) (w h i m : ℕ) {rises falls : List ℤ} (turn : m ≤ 254) (l : Slopes (padded P) z.columns w h (ABOVE + i) m rises falls) where
+module _ (z : Frame) (P : ℕ → ℕ → ℤ) (more w h i m : ℕ) {rises falls : List ℤ} (turn : m ≤ 254) (l : Slopes (padded z P) z.columns more w h (ABOVE + i) m rises falls) where
   abbrev flat : ℕ → ℤ
   flat j = sum_to z.columns (λ k. pick (leb (column_gap z j k) (w - h)) (enter_leave z P i h k))
 
   abbrev slanted : ℕ → ℤ
-  slanted j = rising (padded P) w h (ABOVE + i) (MARGIN + j) +ℤ falling (padded P) w h (ABOVE + i) (MARGIN + j)
+  slanted j = rising (padded z P) w h (ABOVE + i) (MARGIN + j) +ℤ falling (padded z P) w h (ABOVE + i) (MARGIN + j)
 
   slanted-at : (j : ℕ) → j < z.columns → at rises (j + (RISING_START + m)) +ℤ at falls (j + (FALLING_START - m)) ≡ slanted j
   slanted-at j j< =
       let rises-there : j + (RISING_START + m) + SLOPE_SHIFT - m ≡ MARGIN + j = omega arith in
       let falls-there : j + (FALLING_START - m) + m - SLOPE_SHIFT ≡ MARGIN + j = omega arith in
       ap₂ ◌+ℤ◌
-      (l.rising_at (j + (RISING_START + m)) (omega arith) ∙ ap (rising (padded P) w h (ABOVE + i)) rises-there)
-      (l.falling_at (j + (FALLING_START - m)) (omega arith) ∙ ap (falling (padded P) w h (ABOVE + i)) falls-there)
+      (l.rising_at (j + (RISING_START + m)) (omega arith) (omega arith) ∙ ap (rising (padded z P) w h (ABOVE + i)) rises-there)
+      (l.falling_at (j + (FALLING_START - m)) (omega arith) (omega arith) ∙ ap (falling (padded z P) w h (ABOVE + i)) falls-there)
 
   -- when the flat parts and then the slopes are added
   pub work-edged : (n : ℕ) (work with-flat out : List ℤ) → n ≡ z.columns → with-flat ≡ tabulate z.columns (λ j. wrap (at work j +ℤ flat j)) →
@@ -183,27 +175,27 @@ module _ (z : Frame) (P : ℕ → ℕ → ℤ) (w h i m : ℕ) {rises falls : Li
       ∙ ap wrap (+ℤ_assoc (at work j) (flat j) (slanted j)))
 
   -- when the tips and the slopes are added together
-  pub work-tipped : (past : (m n : ℕ) → z.rows ≤ m → P m n ≡ pos 0) (beside : (m n : ℕ) → z.columns ≤ n → P m n ≡ pos 0) (n : ℕ) (a c work out : List ℤ) → h ≤ 127 → w - h ≡ 0 →
-      Holds a (padded P (ABOVE + i + 1 + h)) → Holds c (padded P (ABOVE + i - h)) → n ≡ z.columns →
+  pub work-tipped : (past : (m n : ℕ) → z.rows ≤ m → P m n ≡ pos 0) (beside : (m n : ℕ) → z.columns ≤ n → P m n ≡ pos 0) (reach n : ℕ) (a c work out : List ℤ) → h ≤ 127 → w - h ≡ 0 →
+      Holds z reach (padded z P (ABOVE + i + 1 + h)) a → Holds z reach (padded z P (ABOVE + i - h)) c → n ≡ z.columns →
       out ≡ tabulate n (tips_added a c rises falls (RISING_START + m) (FALLING_START - m) work) → out ≡ tabulate z.columns (λ j. wrap (at work j +ℤ edges_change z P h w i j))
   unfolding edges_change
-  work-tipped past beside n a c work out low tip ha hc en eo =
+  work-tipped past beside reach n a c work out low tip ha hc en eo =
       eo ∙ ap (λ (k : ℕ). tabulate k (tips_added a c rises falls (RISING_START + m) (FALLING_START - m) work)) en
       ∙ tabulate-cong z.columns (tips_added a c rises falls (RISING_START + m) (FALLING_START - m) work) (λ j. wrap (at work j +ℤ (flat j +ℤ slanted j)))
       (λ j j<.
       let place : j + MARGIN ≡ MARGIN + j = omega arith in
-      let ends : flat j ≡ padded P (ABOVE + i + 1 + h) (MARGIN + j) -ℤ padded P (ABOVE + i - h) (MARGIN + j) =
+      let ends : flat j ≡ padded z P (ABOVE + i + 1 + h) (MARGIN + j) -ℤ padded z P (ABOVE + i - h) (MARGIN + j) =
       ap (λ (k : ℕ). sum_to z.columns (λ q. pick (leb (column_gap z j q) k) (enter_leave z P i h q))) tip ∙ tips z P past beside h i j (omega arith) j< in
       ap₂ (λ (x y : ℤ). wrap (at work j +ℤ (x +ℤ y)))
-      (ap₂ ◌-ℤ◌ (ha.each (j + MARGIN) ∙ ap (padded P (ABOVE + i + 1 + h)) place) (hc.each (j + MARGIN) ∙ ap (padded P (ABOVE + i - h)) place) ∙ sym ends) (slanted-at j j<))
+      (ap₂ ◌-ℤ◌ (ha.each (j + MARGIN) (omega arith) (omega arith) ∙ ap (padded z P (ABOVE + i + 1 + h)) place) (hc.each (j + MARGIN) (omega arith) (omega arith) ∙ ap (padded z P (ABOVE + i - h)) place) ∙ sym ends) (slanted-at j j<))
 
 -- ---- where a loop over rows begins
-pub slopes-begin : (Q : ℕ → ℕ → ℤ) (columns w h i : ℕ) (rises falls : List ℤ) → Slopes Q columns w h (ABOVE + i) 0 rises falls → Slopes Q columns w h (ABOVE + (i + 0)) 0 rises falls
-slopes-begin Q columns w h i rises falls s =
+pub slopes-begin : (Q : ℕ → ℕ → ℤ) (columns more w h i : ℕ) (rises falls : List ℤ) → Slopes Q columns more w h (ABOVE + i) 0 rises falls → Slopes Q columns more w h (ABOVE + (i + 0)) 0 rises falls
+slopes-begin Q columns more w h i rises falls s =
     let first : i ≡ i + 0 = omega arith in
     rw (← first) s
 
-pub holds-begin : (Q : ℕ → ℕ → ℤ) (h i : ℕ) (c : List ℤ) → Holds c (Q (ABOVE + i - h)) → Holds c (Q (ABOVE + (i + 0) - h))
-holds-begin Q h i c s =
+pub holds-begin : (z : Frame) (reach : ℕ) (Q : ℕ → ℕ → ℤ) (h i : ℕ) (c : List ℤ) → Holds z reach (Q (ABOVE + i - h)) c → Holds z reach (Q (ABOVE + (i + 0) - h)) c
+holds-begin z reach Q h i c s =
     let first : i ≡ i + 0 = omega arith in
     rw (← first) s

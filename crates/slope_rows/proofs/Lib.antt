@@ -3,5 +3,7 @@ pub mod Advances
 pub mod Required
 pub mod First
 pub mod Kept
+pub mod NextColumn
+pub mod SeamLaws
 pub mod Windows
 pub mod Zeros

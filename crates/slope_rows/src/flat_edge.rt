@@ -26,13 +26,13 @@ pub fn add_flat_edge(
     work: &mut [i64],
     row: &mut [i64],
 )
-    requires { FlatEdgeRequires source.now.frame i h work.old row.old }
+    requires { FlatEdgeRequires source.now.frame i h k work.old row.old }
     ensures { work.new ≡ tabulate source.now.frame.columns (λ j. wrap (get_or work.old j (pos 0) +ℤ sum_to source.now.frame.columns (λ n. pick (leb (column_gap source.now.frame j n) k) (enter_leave source.now.frame (plane_at (checked_source source.now)) i h n)))) }
 {
     let columns = source.frame.columns;
     // A buffer for the widest row, since there is no heap.
     let mut change = [0i64; 1024];
     step::step_difference(source, i, h, &mut change[..columns]);
-    sliding_sums::neighbour_sums(&change[..columns], k, row);
+    sliding_sums::neighbour_sums(source.frame.columns_wrap, &change[..columns], k, row);
     step::add(work, row);
 }

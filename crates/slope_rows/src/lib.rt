@@ -4,7 +4,9 @@
 
 pub mod flat_edge; // flat_edge.rt: the flat parts of the edges
 pub mod kept_slopes; // kept_slopes.rt: inputs whose window is no rectangle
+pub mod padded_rows; // padded_rows.rt: rows of the padded plane
 pub mod places; // places.rt: where the slopes are kept
+pub mod seam; // seam.rt: the slopes that come in when they move on
 pub mod slope_starts; // slope_starts.rt: the slopes where a call begins
 pub mod edges; // edges.rt: many rows
 
@@ -13,10 +15,12 @@ ghost use Rattle.spec_picture.specs.Plane.{plane_number};
 ghost use Rattle.slope_rows.specs.Edges.{edged, AddEdgesRequires, LeavingRequires, LeavingDone};
 
 use crate::kept_slopes::SlantedInputs;
+use crate::padded_rows::load;
 use crate::places::{CallRow, FALLING_START, RISING_START, falling_places, rising_places};
+use crate::seam::add_seam;
 use slope_loops::loops;
 use slope_loops::loops::Slope;
-use slope_loops::padding::{ABOVE, PlaneValue, ROW_LENGTH};
+use slope_loops::padding::{ABOVE, ROW_LENGTH};
 
 // The rows and the slopes are arrays apart here, and no struct: `slope_rows::edges::rows::rows_from` says why.
 
@@ -66,13 +70,21 @@ pub fn next_row<S: Slope>(
     let h = slanted.height;
     let w = slanted.width;
     let k = w - h;
-    let n = slanted.inputs.source.frame.columns + w;
+    let n = slanted.inputs.source.frame.columns + slanted.beside;
     let below = ABOVE + here.row + 1;
     let moved = here.moved + 1;
-    S::Value::load(&slanted.inputs.source, below + h, a);
+    load(slanted, below + h, a);
     add_edges(slanted, here, a, c, rises, falls, work, out);
-    S::Value::load(&slanted.inputs.source, below, b);
-    S::Value::load(&slanted.inputs.source, below - h, c);
+    load(slanted, below, b);
+    load(slanted, below - h, c);
+    add_seam(slanted, here, rises, falls);
     loops::slide(a, b, c, n, rising_places(moved, w, k), rises);
-    loops::slide(a, b, c, n, falling_places(moved, w, k), falls);
+    loops::slide(
+        a,
+        b,
+        c,
+        n,
+        falling_places(moved, slanted.beside, w, k),
+        falls,
+    );
 }

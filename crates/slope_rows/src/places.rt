@@ -36,12 +36,12 @@ pub fn rising_cells(far: usize) -> GatherPlaces
     }
 }
 
-// The slopes that fall: the same in a mirror. It begins w columns before the picture's first.
-pub fn falling_cells(w: usize, far: usize) -> GatherPlaces
-    requires { (far ≤ w) × (w ≤ 127) }
-    ensures { FallingCells (MARGIN - w) far result }
+// The slopes that fall: the same in a mirror. It begins so many columns before the picture's first as slopes are kept of.
+pub fn falling_cells(beside: usize, far: usize) -> GatherPlaces
+    requires { (beside ≤ 127) × (far ≤ 127) }
+    ensures { FallingCells (MARGIN - beside) far result }
 {
-    let first = MARGIN - w;
+    let first = MARGIN - beside;
     GatherPlaces {
         sums: first + SLOPE_SHIFT,
         enters: first - far,
@@ -66,11 +66,11 @@ pub fn rising_places(moved: usize, w: usize, k: usize) -> SlidePlaces
 }
 
 // The slopes that fall: the same in a mirror.
-pub fn falling_places(moved: usize, w: usize, k: usize) -> SlidePlaces
-    requires { (moved ≤ 255) × (k ≤ w) × (w ≤ 127) }
-    ensures { FallingPlaces (MARGIN - w) moved w k result }
+pub fn falling_places(moved: usize, beside: usize, w: usize, k: usize) -> SlidePlaces
+    requires { (moved ≤ 255) × (beside ≤ 127) × (k ≤ w) × (w ≤ 127) }
+    ensures { FallingPlaces (MARGIN - beside) moved w k result }
 {
-    let first = MARGIN - w;
+    let first = MARGIN - beside;
     SlidePlaces {
         sums: first + SLOPE_SHIFT - moved,
         lower_new: first - 1 - k,

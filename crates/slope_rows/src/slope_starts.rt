@@ -6,11 +6,12 @@ ghost use Rattle.spec_picture.specs.Plane.{plane_number};
 ghost use Rattle.slope_rows.specs.Edges.{StartRequires, Started, sum_by_slopes, FirstRowRequires};
 
 use crate::kept_slopes::SlantedInputs;
+use crate::padded_rows::load;
 use crate::places::{FALLING_START, RISING_START, falling_cells, rising_cells};
 use arithmetic::wrapping;
 use slope_loops::loops;
 use slope_loops::loops::Slope;
-use slope_loops::padding::{ABOVE, PlaneValue, ROW_LENGTH};
+use slope_loops::padding::{ABOVE, ROW_LENGTH};
 
 // The rows and the slopes are arrays apart here, and no struct: `slope_rows::edges::rows::rows_from` says why.
 
@@ -29,13 +30,13 @@ pub fn start_slopes<S: Slope>(
 {
     let h = slanted.height;
     let w = slanted.width;
-    let n = slanted.inputs.source.frame.columns + w;
+    let n = slanted.inputs.source.frame.columns + slanted.beside;
     for t in 0..h {
-        S::Value::load(&slanted.inputs.source, ABOVE + i + 1 + t, a);
-        S::Value::load(&slanted.inputs.source, ABOVE + i - t, b);
+        load(slanted, ABOVE + i + 1 + t, a);
+        load(slanted, ABOVE + i - t, b);
         let far = w - t;
         loops::gather(a, b, n, rising_cells(far), rises);
-        loops::gather(a, b, n, falling_cells(w, far), falls);
+        loops::gather(a, b, n, falling_cells(slanted.beside, far), falls);
     }
 }
 

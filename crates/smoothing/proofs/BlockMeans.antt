@@ -36,7 +36,7 @@ unfolding mean
 alone-mean z f w c i j below h =
     let x : Inputs = alone z f w in
     record {
-      count = record { some = counted z f w i j below h; few = count-bound x c.levels_f c.levels_g i j c.window };
+      count = record { some = counted z f w i j below h; few = count-bound x c.levels_f c.levels_g i j c.window c.fitting h };
       small = (sums-fair x c.levels_f c.levels_g i j).first;
       level = mean-level z f w c.levels_f i j below h;
     }

@@ -1,4 +1,4 @@
--- Worked examples of results: what C sees of an answer, of a refusal, and of an answer with no value.
+-- Worked examples of results: what C sees of an answer, of a refusal, and of an answer with no value; and of frames as C gives them.
 -- Assumes nothing.
 use mathlib.Core.Path.{◌≡◌, refl}
 use mathlib.Core.Bool.{false}
@@ -10,7 +10,7 @@ use Rattle.numbers.specs.Sum.{sum_to, pick}
 use Rattle.numbers.specs.Round.{floor_div, nearest, root_step, root_in, root, root_over}
 use Rattle.spec_picture.specs.Refusal.{Outcome, refused, answered, refusal, outcome}
 use Rattle.spec_picture.specs.declared.Cell.{Cell}
-use Rattle.spec_picture.specs.Frame.{frame, cell, frame_legal, in_range}
+use Rattle.spec_picture.specs.Frame.{frame, looped, cell, frame_legal, in_range}
 use Rattle.spec_picture.specs.Window.{window, rectangle_legal, window_legal, shape_of, height, reach}
 use Rattle.spec_picture.specs.Picture.{no_shift, shift_legal, inputs, counts, plane_value, plane_at}
 use Rattle.spec_picture.specs.Direct.{window_sum, direct_sum, direct_call}
@@ -20,8 +20,13 @@ use Rattle.spec_statistics.specs.Moments.{mean, deviation, unless_empty, mean_ca
 use Rattle.spec_statistics.specs.Voice.{over32768, voice, voice_call}
 use Rattle.spec_statistics.specs.Coefficient.{signed, magnitude, coefficient, coefficient_call}
 use Rattle.spec_smoothing.specs.Steady.{find_column, or_else, find_cell, first_steady, steady_call}
+use Rattle.spec_c.specs.Frame.{frame_from}
 use Rattle.spec_c.specs.Leaves.{RowCallLeaves}
 use Rattle.spec_c.specs.CResult.{CResult, VoiceResult, with_value, status, result_or, c_result, sums, of_whole, of_coefficient, of_cell, voice_result, of_voice}
+
+-- ---- frames of 3 rows and 5 columns: 0 clips; 1, 2 and the largest number of 32 bits wrap
+pub frames-given : (frame_from 3 5 0 ≡ frame 3 5) × (frame_from 3 5 1 ≡ looped 3 5) × (frame_from 3 5 2 ≡ looped 3 5) × (frame_from 3 5 4294967295 ≡ looped 3 5)
+frames-given = (refl, refl, refl, refl)
 
 -- ---- the direct sum of a plane of the picture 1 2 over a window of one cell
 abbrev direct : (plane column : ℕ) → CResult ℤ

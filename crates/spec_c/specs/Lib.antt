@@ -1,3 +1,4 @@
 pub mod Leaves
 pub mod CResult
+pub mod Frame
 pub mod Version

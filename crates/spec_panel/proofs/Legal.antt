@@ -1,4 +1,4 @@
--- A text that is accepted asks for a legal picture and a legal window, so smoothing does not refuse it.
+-- A text that is accepted asks for a legal picture, whose columns clip, and a legal window, so smoothing does not refuse it.
 -- Assumes nothing.
 use mathlib.Core.Path.{◌≡◌, refl, ap, subst}
 use Prim.Native.Nat.{ℕ, zero, suc, ◌^◌, ◌<◌}
@@ -22,6 +22,7 @@ use Rattle.spec_panel.specs.Panel.{Drawing, count_of, panel_frame, is_level, lev
 
 pub record Legal (d : Drawing) : Type 0 where
   pub frame : T (panel_frame d.frame)
+  pub clips : d.frame.columns_wrap ≡ false
   pub window : T (window_legal d.window)
   pub full : length d.levels ≡ cells d.frame
   pub levels : Levels d.levels
@@ -66,7 +67,7 @@ levels-good (suc k) (Some n ∷ ns) l e = go (is_level n) refl (levels_of k ns) 
         subst (Good (suc k)) q (one_more k n t (rw eb tt) (h t refl))
     go false eb r h e = absurd (never e)
 
-module _ (z : Frame) (ok : T (panel_frame z)) where
+module _ (z : Frame) (ok : T (panel_frame z)) (clips : z.columns_wrap ≡ false) where
   windowed-legal : (w : Window) (o : Option (List ℤ)) → ((l : List ℤ) → o ≡ Some l → Good (cells z) l) → (d : Drawing) → windowed z w o ≡ answered d → Legal d
   unfolding windowed
   windowed-legal w None h d e = absurd (refuses e)
@@ -76,7 +77,7 @@ module _ (z : Frame) (ok : T (panel_frame z)) where
       go true eb e =
           let q : record { frame = z; window = w; levels = l } ≡ d = cc in
           let g = h l refl in
-          subst Legal q (record { frame = ok; window = rw eb tt; full = g.full; levels = record { level = g.level } })
+          subst Legal q (record { frame = ok; clips = clips; window = rw eb tt; full = g.full; levels = record { level = g.level } })
       go false eb e = absurd (refuses e)
 
   filled-legal : (ns : List (Option ℤ)) (d : Drawing) → filled z ns ≡ answered d → Legal d
@@ -98,7 +99,7 @@ sized-legal (Some r ∷ None ∷ ns) d e = absurd (refuses e)
 sized-legal (Some r ∷ Some c ∷ ns) d e = go (panel_frame (frame (count_of r) (count_of c))) refl e
   where
     go : (b : Bool) → panel_frame (frame (count_of r) (count_of c)) ≡ b → elim b [ true ↦ filled (frame (count_of r) (count_of c)) ns | false ↦ refused 1 ] ≡ answered d → Legal d
-    go true eb e = filled-legal (frame (count_of r) (count_of c)) (rw eb tt) ns d e
+    go true eb e = filled-legal (frame (count_of r) (count_of c)) (rw eb tt) refl ns d e
     go false eb e = absurd (refuses e)
 
 pub parsed-legal : (text : List ℕ) (d : Drawing) → parsed text ≡ answered d → Legal d

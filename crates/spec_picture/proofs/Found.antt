@@ -12,7 +12,7 @@ use Rattle.spec_picture.specs.Refusal.{refusal}
 use Rattle.spec_picture.specs.Conditions.{picture_checks}
 use Rattle.spec_picture.proofs.Refusals.{InLimits, in-limits, none-head, none_rest}
 use Rattle.spec_picture.specs.Frame.{frame_legal, cells}
-use Rattle.spec_picture.specs.Window.{window_legal}
+use Rattle.spec_picture.specs.Window.{window_legal, fits}
 use Rattle.spec_picture.specs.Picture.{Inputs, Levels}
 use Rattle.spec_picture.specs.declared.checked.CheckedSource.{CheckedSource}
 use Rattle.spec_picture.specs.declared.checked.CheckedInputs.{CheckedInputs}
@@ -34,7 +34,7 @@ lengths z f g e =
       length_g = eqb→eq (length g) (cells z) (of-not (eqb (length g) (cells z)) (none-head 2 _ _ (none_rest 2 _ _ two)));
     }
 
--- pictures of levels, of a legal frame, and a legal window
+-- pictures of levels, of a legal frame, and a legal window that fits it
 pub record Checked (x : Inputs) : Type 0 where
   pub frame : T (frame_legal x.source.frame)
   pub length_f : length x.source.f ≡ cells x.source.frame
@@ -42,11 +42,12 @@ pub record Checked (x : Inputs) : Type 0 where
   pub levels_f : Levels x.source.f
   pub levels_g : Levels x.source.g
   pub window : T (window_legal x.window)
+  pub fitting : T (fits x.source.frame x.window)
 
 pub checked : (x : CheckedInputs) → Checked (checked_inputs x)
 checked x =
     let s = x.source in
-    record { frame = s.legal; length_f = s.length_f; length_g = s.length_g; levels_f = s.levels_f; levels_g = s.levels_g; window = x.window.legal }
+    record { frame = s.legal; length_f = s.length_f; length_g = s.length_g; levels_f = s.levels_f; levels_g = s.levels_g; window = x.window.legal; fitting = x.fitting }
 
 pub limits : (x : CheckedSource) → InLimits x.frame
 limits x = in-limits x.frame x.legal

@@ -1,6 +1,8 @@
+pub mod Borders
 pub mod Counts
 pub mod Examples
 pub mod Found
+pub mod Gaps
 pub mod Legal
 pub mod Offsets
 pub mod Planes

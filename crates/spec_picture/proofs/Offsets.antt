@@ -1,27 +1,29 @@
 -- The direct sum is the sum over the window's offsets.
 -- Assumes nothing.
 use mathlib.Core.Path.{◌≡◌, refl, sym, ◌∙◌, ap, ap₂}
-use Prim.Native.Nat.{ℕ, zero, suc, ◌+◌, ◌-◌, ◌≤◌, min}
+use Prim.Native.Nat.{ℕ, zero, suc, ◌+◌, ◌-◌, ◌*◌, ◌%◌, ◌≤◌, ◌<◌, min}
 use native.Mathlib.Omega.{arith}
 use mathlib.Core.Bool.{Bool, true, false, cond}
-use lib.Dec.{leb, ltb, ltb→lt, nltb→le, le→leb, leb→le}
-use lib.IntN.{ℤ, pos, negsuc, nat_abs, sub_ℕ, ◌+ℤ◌, ◌-ℤ◌}
+use lib.Dec.{T, leb, ltb, ltb→lt, lt→ltb, nltb→le, le→leb, leb→le}
+use lib.IntN.{ℤ, pos, negsuc, nat_abs, sub_ℕ, ◌+ℤ◌, ◌-ℤ◌, +ℤ_idl, +ℤ_idr}
 use Rattle.numbers.specs.Sum.{sum_to, pick, dist}
 use Rattle.numbers.proofs.Integers.{up, dn, sub-law}
 use Rattle.numbers.proofs.Linear.{any, sums, ring}
+use Rattle.numbers.proofs.Wraps.{sub_low, sub-high}
+use Rattle.std.proofs.lemmas.Nat.{mod-mul-add}
+use native.Mathlib.Decide.{dec_lt}
 use Rattle.numbers.proofs.Sums.{sum_near, sum_more, sum_less, pick_yes, pick_no}
 use Rattle.spec_picture.specs.declared.Frame.{Frame}
-use Rattle.spec_picture.specs.Frame.{row_gap, column_gap}
-use Rattle.spec_picture.specs.Window.{Shape, height, reach, shape_of}
+use Rattle.spec_picture.specs.Frame.{row_gap, gap_of, column_gap, Apart, remainder}
+use Rattle.spec_picture.specs.Window.{Shape, height, reach, width, shape_of}
+use Rattle.spec_picture.specs.Conditions.{accepted}
 use Rattle.spec_picture.specs.Picture.{Inputs, plane_at}
 use Rattle.spec_picture.specs.Direct.{window_sum, direct_sum}
-use Rattle.spec_picture.specs.Offsets.{sum_span, extended, offset_sum}
-use Rattle.spec_picture.proofs.Windows.{by_rows}
-
--- a list of n values, and 0 at every other signed place
-unfoldable pub clipped : ℕ → (ℕ → ℤ) → ℤ → ℤ
-clipped n f (pos k) = pick (ltb k n) (f k)
-clipped n f (negsuc k) = pos 0
+use Rattle.spec_picture.specs.Sides.{at_both}
+use Rattle.spec_picture.specs.Offsets.{sum_span, clipped, beyond, extended, offset_sum}
+use Rattle.spec_picture.proofs.Gaps.{near_none, near_farther}
+use Rattle.spec_picture.proofs.Refusals.{accepted-has}
+use Rattle.spec_picture.proofs.Windows.{by_rows, reach_width, apart-of}
 
 span-cong : (r : ℕ) (f g : ℤ → ℤ) → ((q : ℤ) → nat_abs q ≤ r → f q ≡ g q) → sum_span r f ≡ sum_span r g
 unfolding sum_span
@@ -63,15 +65,77 @@ by-offsets n j (suc r) f =
     ∙ ap₂ ◌+ℤ◌ (ap (λ (v : ℤ). a -ℤ v) (sym less) ∙ sym (sum_near n j r f) ∙ by-offsets n j r f)
     (ap₂ ◌+ℤ◌ (ap (λ (k : ℕ). pick (ltb k n) (f k)) e') (sym (back n j r f)))
 
--- a row of the plane, as `extended` has it
-row_inside : (z : Frame) (P : ℕ → ℕ → ℤ) (m : ℕ) (c : ℤ) → extended z P (pos m) c ≡ pick (ltb m z.rows) (clipped z.columns (P m) c)
-unfolding extended clipped pick
-row_inside z P m (pos n) = refl
-row_inside z P m (negsuc n) = zero-pick (ltb m z.rows)
+-- ---- the columns near a column by offsets, along the row or round it
+-- the remainder of a place that is at most once past either end
+pub rest-within : (n k : ℕ) → k < n → k % n ≡ k
+rest-within n k h =
+    let e : k ≡ 0 * n + k = omega arith in
+    ap (λ (m : ℕ). m % n) e ∙ mod-mul-add 0 n k h
+
+pub rest-past : (n k : ℕ) → n ≤ k → k - n < n → k % n ≡ k - n
+rest-past n k l h =
+    let e : k ≡ 1 * n + (k - n) = omega arith in
+    ap (λ (m : ℕ). m % n) e ∙ mod-mul-add 1 n (k - n) h
+
+ahead : (n j d : ℕ) (f : ℕ → ℤ) → j < n → d < n → f (remainder n (pos (j + d))) ≡ pick (ltb (j + d) n) (f (j + d)) +ℤ pick (leb n (j + d)) (f (j + d - n))
+unfolding remainder
+ahead n j d f hj hd = go (dec_lt (j + d) n)
   where
-    zero-pick : (b : Bool) → pos 0 ≡ pick b (pos 0)
-    zero-pick true = refl
-    zero-pick false = refl
+    go : Dec (j + d < n) → f (remainder n (pos (j + d))) ≡ pick (ltb (j + d) n) (f (j + d)) +ℤ pick (leb n (j + d)) (f (j + d - n))
+    go (yes h) =
+        ap f (rest-within n (j + d) h) ∙ sym (+ℤ_idr (f (j + d)))
+        ∙ sym (ap₂ ◌+ℤ◌ (pick_yes (ltb (j + d) n) (f (j + d)) (lt→ltb (j + d) n h)) (pick_no (leb n (j + d)) (f (j + d - n)) (λ t. omega (arith, leb→le n (j + d) t))))
+    go (no h) =
+        ap f (rest-past n (j + d) (omega arith) (omega arith)) ∙ sym (+ℤ_idl (f (j + d - n)))
+        ∙ sym (ap₂ ◌+ℤ◌ (pick_no (ltb (j + d) n) (f (j + d)) (λ t. omega (arith, ltb→lt (j + d) n t))) (pick_yes (leb n (j + d)) (f (j + d - n)) (le→leb n (j + d) (omega arith))))
+
+behind : (n j d : ℕ) (f : ℕ → ℤ) → j < n → suc d < n → f (remainder n (pos j +ℤ negsuc d)) ≡ pick (leb (suc d) j) (f (j - suc d)) +ℤ pick (ltb j (suc d)) (f (n - (suc d - j)))
+unfolding remainder
+behind n j d f hj hd = go (dec_lt j (suc d))
+  where
+    go : Dec (j < suc d) → f (remainder n (sub_ℕ j (suc d))) ≡ pick (leb (suc d) j) (f (j - suc d)) +ℤ pick (ltb j (suc d)) (f (n - (suc d - j)))
+    go (yes h) =
+        let k : n - suc (suc d - suc j) ≡ n - (suc d - j) = omega arith in
+        ap (λ (c : ℤ). f (remainder n c)) (sub_low j (suc d) h) ∙ ap (λ (m : ℕ). f (n - suc m)) (rest-within n (suc d - suc j) (omega arith)) ∙ ap f k ∙ sym (+ℤ_idl (f (n - (suc d - j))))
+        ∙ sym (ap₂ ◌+ℤ◌ (pick_no (leb (suc d) j) (f (j - suc d)) (λ t. omega (arith, leb→le (suc d) j t))) (pick_yes (ltb j (suc d)) (f (n - (suc d - j))) (lt→ltb j (suc d) h)))
+    go (no h) =
+        ap (λ (c : ℤ). f (remainder n c)) (sub-high j (suc d) (omega arith)) ∙ ap f (rest-within n (j - suc d) (omega arith)) ∙ sym (+ℤ_idr (f (j - suc d)))
+        ∙ sym (ap₂ ◌+ℤ◌ (pick_yes (leb (suc d) j) (f (j - suc d)) (le→leb (suc d) j (omega arith))) (pick_no (ltb j (suc d)) (f (n - (suc d - j))) (λ t. omega (arith, ltb→lt j (suc d) t))))
+
+four : (a b c d : ℤ) → (a +ℤ b) +ℤ (c +ℤ d) ≡ (b +ℤ d) +ℤ (a +ℤ c)
+four a b c d = ring (search (sums, any a, any b, any c, any d) depth 12) (omega arith)
+
+swap-ends : (a b : ℤ) → a +ℤ b ≡ b +ℤ a
+swap-ends a b = ring (search (sums, any a, any b)) (omega arith)
+
+-- column j itself, and the columns on both sides of it, at an offset
+pub offset-0 : (w : Bool) (n j : ℕ) (f : ℕ → ℤ) → j < n → beyond w n f (pos (j + 0)) ≡ f j
+unfolding remainder clipped
+offset-0 false n j f h =
+    let e : j + 0 ≡ j = omega arith in
+    ap (λ (k : ℕ). pick (ltb k n) (f k)) e ∙ pick_yes (ltb j n) (f j) (lt→ltb j n h)
+offset-0 true n j f h =
+    let e : j + 0 ≡ j = omega arith in
+    ap (λ (k : ℕ). f (k % n)) e ∙ ap f (rest-within n j h)
+
+pub both-offsets : (w : Bool) (n j r : ℕ) (f : ℕ → ℤ) → j < n → (T w → 2 * suc r + 1 ≤ n) → at_both w n (suc r) j f ≡ beyond w n f (pos j +ℤ pos (suc r)) +ℤ beyond w n f (pos j +ℤ negsuc r)
+unfolding clipped
+both-offsets false n j r f hj apart =
+    swap-ends (pick (leb (suc r) j) (f (j - suc r))) (pick (ltb (j + suc r) n) (f (j + suc r)))
+    ∙ ap (λ (v : ℤ). pick (ltb (j + suc r) n) (f (j + suc r)) +ℤ v)
+    (ap (pick (leb (suc r) j)) (sym (pick_yes (ltb (j - suc r) n) (f (j - suc r)) (lt→ltb (j - suc r) n (omega arith)))) ∙ sym (back n j r f))
+both-offsets true n j r f hj apart =
+    let l = apart tt in
+    four (pick (leb (suc r) j) (f (j - suc r))) (pick (ltb (j + suc r) n) (f (j + suc r))) (pick (ltb j (suc r)) (f (n - (suc r - j)))) (pick (leb n (j + suc r)) (f (j + suc r - n)))
+    ∙ ap₂ ◌+ℤ◌ (sym (ahead n j (suc r) f hj (omega (arith, l)))) (sym (behind n j r f hj (omega (arith, l))))
+
+-- once for each offset q from -r to r
+pub round-offsets : (w : Bool) (n j r : ℕ) (f : ℕ → ℤ) → j < n → (T w → 2 * r + 1 ≤ n) → sum_to n (λ k. pick (leb (gap_of w n j k) r) (f k)) ≡ sum_span r (λ q. beyond w n f (pos j +ℤ q))
+unfolding sum_span
+round-offsets w n j zero f hj apart = near_none w n j hj f ∙ sym (offset-0 w n j f hj)
+round-offsets w n j (suc r) f hj apart =
+    near_farther n j hj f w r apart
+    ∙ ap₂ ◌+ℤ◌ (round-offsets w n j r f hj (λ t. omega (arith, apart t))) (both-offsets w n j r f hj apart)
 
 span-zeros : (r : ℕ) → sum_span r (λ q. pos 0) ≡ pos 0
 unfolding sum_span
@@ -93,23 +157,19 @@ gap i (negsuc d) m e =
     let l : dn (sub_ℕ i (suc d)) ≡ 0 = ap dn e in
     omega (arith, sub-law i (suc d))
 
-module _ (z : Frame) (s : Shape) (P : ℕ → ℕ → ℤ) (i j : ℕ) where
+module _ (z : Frame) (s : Shape) (P : ℕ → ℕ → ℤ) (i j : ℕ) (j< : j < z.columns) (apart : Apart z (width s)) where
   -- the part of row m that lies in the window
   abbrev part : ℕ → ℤ
   part m = sum_to z.columns (λ n. pick (leb (column_gap z j n) (reach s (row_gap z i m))) (P m n))
 
   row : (p c : ℤ) → pos i +ℤ p ≡ c → clipped z.rows part c ≡ sum_span (reach s (nat_abs p)) (λ q. extended z P c (pos j +ℤ q))
-  unfolding clipped
+  unfolding clipped extended
   row p (pos m) e =
-      ap (pick (ltb m z.rows)) (by-offsets z.columns j (reach s (dist i m)) (P m) ∙ ap (λ (k : ℕ). sum_span (reach s k) (λ q. clipped z.columns (P m) (pos j +ℤ q))) (gap i p m e))
-      ∙ sym (span-pick (reach s (nat_abs p)) (ltb m z.rows) (λ q. clipped z.columns (P m) (pos j +ℤ q)))
-      ∙ span-cong (reach s (nat_abs p)) (λ q. pick (ltb m z.rows) (clipped z.columns (P m) (pos j +ℤ q))) (λ q. extended z P (pos m) (pos j +ℤ q)) (λ q l. sym (row_inside z P m (pos j +ℤ q)))
-  row p (negsuc m) e =
-      sym (span-zeros (reach s (nat_abs p)))
-      ∙ span-cong (reach s (nat_abs p)) (λ q. pos 0) (λ q. extended z P (negsuc m) (pos j +ℤ q)) (λ q l. above (pos j +ℤ q))
-    where
-      above : (c : ℤ) → pos 0 ≡ extended z P (negsuc m) c
-      above c = unfold extended in refl
+      ap (pick (ltb m z.rows))
+      (round-offsets z.columns_wrap z.columns j (reach s (dist i m)) (P m) j< (λ t. omega (arith, apart t, reach_width s (dist i m)))
+      ∙ ap (λ (k : ℕ). sum_span (reach s k) (λ q. beyond z.columns_wrap z.columns (P m) (pos j +ℤ q))) (gap i p m e))
+      ∙ sym (span-pick (reach s (nat_abs p)) (ltb m z.rows) (λ q. beyond z.columns_wrap z.columns (P m) (pos j +ℤ q)))
+  row p (negsuc m) e = sym (span-zeros (reach s (nat_abs p)))
 
   -- the sum over the picture's cells that the window holds is the sum over the window's offsets
   pub window-offsets : window_sum z s P i j ≡ offset_sum z s P (pos i) (pos j)
@@ -118,6 +178,7 @@ module _ (z : Frame) (s : Shape) (P : ℕ → ℕ → ℤ) (i j : ℕ) where
       by_rows z s P i j ∙ by-offsets z.rows i (height s) part
       ∙ span-cong (height s) (λ p. clipped z.rows part (pos i +ℤ p)) (λ p. sum_span (reach s (nat_abs p)) (λ q. extended z P (pos i +ℤ p) (pos j +ℤ q))) (λ p l. row p (pos i +ℤ p) refl)
 
-pub direct-offsets : (x : Inputs) (i j : ℕ) → direct_sum x i j ≡ offset_sum x.source.frame (shape_of x.window) (plane_at x.source) (pos i) (pos j)
+-- the direct sum is the sum over the offsets, where columns clip and where they wrap
+pub direct-offsets : (x : Inputs) (i j : ℕ) → accepted x → j < x.source.frame.columns → direct_sum x i j ≡ offset_sum x.source.frame (shape_of x.window) (plane_at x.source) (pos i) (pos j)
 unfolding direct_sum
-direct-offsets x i j = window-offsets x.source.frame (shape_of x.window) (plane_at x.source) i j
+direct-offsets x i j ok h = window-offsets x.source.frame (shape_of x.window) (plane_at x.source) i j h (apart-of x.source.frame x.window (accepted-has x ok).fitting)

@@ -11,7 +11,7 @@ use Rattle.numbers.proofs.Sums.{pick-bound, pick_no}
 use Rattle.numbers.proofs.Tests.{and_left, and_right}
 use Rattle.numbers.proofs.Magnitudes.{size-mul}
 use lib.Signed.{nat_abs-le}
-use Rattle.spec_picture.specs.Frame.{in_range, inside, row_at, column_at}
+use Rattle.spec_picture.specs.Frame.{in_range, inside_g, row_at, column_at}
 use Rattle.spec_picture.specs.Picture.{Source, Levels, counts, plane_value, plane_at, level_of, other_of}
 
 pub product-bound : (x y : ℤ) → nat_abs x ≤ 32768 → nat_abs y ≤ 32768 → nat_abs (x *ℤ y) ≤ 2 ^ 30
@@ -54,7 +54,7 @@ pub plane-past : (x : Source) (m n : ℕ) → x.frame.rows ≤ m → plane_at x 
 unfolding plane_at counts in_range
 plane-past x m n h =
     let here = ltb m x.frame.rows && ltb n x.frame.columns in
-    let there = inside x.frame (pos m +ℤ x.shift.down) (pos n +ℤ x.shift.right) in
+    let there = inside_g x.frame (pos m +ℤ x.shift.down) (pos n +ℤ x.shift.right) in
     pick_no (counts x m n) _ (λ t. omega (arith, ltb→lt m x.frame.rows (and_left (ltb m x.frame.rows) (ltb n x.frame.columns) (and_left here there t))))
 
 -- nor past the last column
@@ -62,5 +62,5 @@ pub plane-beside : (x : Source) (m n : ℕ) → x.frame.columns ≤ n → plane_
 unfolding plane_at counts in_range
 plane-beside x m n h =
     let here = ltb m x.frame.rows && ltb n x.frame.columns in
-    let there = inside x.frame (pos m +ℤ x.shift.down) (pos n +ℤ x.shift.right) in
+    let there = inside_g x.frame (pos m +ℤ x.shift.down) (pos n +ℤ x.shift.right) in
     pick_no (counts x m n) _ (λ t. omega (arith, ltb→lt n x.frame.columns (and_right (ltb m x.frame.rows) (ltb n x.frame.columns) (and_left here there t))))

@@ -13,7 +13,7 @@ use Rattle.spec_picture.specs.Refusal.{Check, ◌when◌, refused, answered, ref
 use Rattle.std.specs.Prelude.{Result, Ok, Err, IsErrAnd}
 use Rattle.spec_picture.specs.declared.Refusal.{Refusal}
 use Rattle.spec_picture.specs.Answers.{number, outcome_by}
-use Rattle.spec_picture.specs.Window.{window_legal}
+use Rattle.spec_picture.specs.Window.{window_legal, fits}
 use Rattle.spec_picture.specs.declared.Frame.{Frame}
 use Rattle.spec_picture.specs.Frame.{frame_legal, cells, Within}
 use Rattle.spec_picture.specs.Picture.{Inputs, shift_legal}
@@ -174,6 +174,7 @@ pub record Accepted (x : Inputs) : Type 0 where
   pub window : T (window_legal x.window)
   pub shift : T (shift_legal x.source.shift)
   pub plane : ltb 5 x.source.plane ≡ false
+  pub fitting : T (fits x.source.frame x.window)
 
 pub accepted-has : (x : Inputs) → accepted x → Accepted x
 accepted-has x e1 =
@@ -184,7 +185,9 @@ accepted-has x e1 =
     let c3 = not (window_legal x.window) in
     let c4 = not (shift_legal s.shift) in
     let c5 = ltb 5 s.plane in
-    let r5 = (5 when c5) ∷ [] in
+    let c11 = not (fits s.frame x.window) in
+    let r11 = (11 when c11) ∷ [] in
+    let r5 = (5 when c5) ∷ r11 in
     let r4 = (4 when c4) ∷ r5 in
     let r3 = (3 when c3) ∷ r4 in
     let rg = (2 when cg) ∷ r3 in
@@ -194,17 +197,19 @@ accepted-has x e1 =
     let e3 = none_rest 2 cg r3 eg in
     let e4 = none_rest 3 c3 r4 e3 in
     let e5 = none_rest 4 c4 r5 e4 in
+    let e11 = none_rest 5 c5 r11 e5 in
     record {
       frame = of-not (frame_legal s.frame) (none-head 1 c1 rf e1);
       length_f = eqb→eq (length s.f) (cells s.frame) (of-not (eqb (length s.f) (cells s.frame)) (none-head 2 cf rg ef));
       length_g = eqb→eq (length s.g) (cells s.frame) (of-not (eqb (length s.g) (cells s.frame)) (none-head 2 cg r3 eg));
       window = of-not (window_legal x.window) (none-head 3 c3 r4 e3);
       shift = of-not (shift_legal s.shift) (none-head 4 c4 r5 e4);
-      plane = none-head 5 c5 [] e5;
+      plane = none-head 5 c5 r11 e5;
+      fitting = of-not (fits s.frame x.window) (none-head 11 c11 [] e11);
     }
 
--- "Checks run in number order, each where the call has that input": the direct sum has 1 to 6, 2 for each picture
-pub direct-order : (x : Inputs) (i j : ℕ) → numbers_of (direct_checks x i j) ≡ 1 ∷ 2 ∷ 2 ∷ 3 ∷ 4 ∷ 5 ∷ 6 ∷ []
+-- "Checks run in number order, each where the call has that input": the direct sum has 1 to 5, 2 for each picture, then 11 and 6
+pub direct-order : (x : Inputs) (i j : ℕ) → numbers_of (direct_checks x i j) ≡ 1 ∷ 2 ∷ 2 ∷ 3 ∷ 4 ∷ 5 ∷ 11 ∷ 6 ∷ []
 unfolding numbers_of
 direct-order x i j = refl
 

@@ -3,16 +3,16 @@
 use mathlib.Core.Path.{◌≡◌, refl}
 use Prim.Native.Nat.{ℕ, zero, suc, ◌+◌, ◌-◌, ◌*◌, ◌≤◌, min}
 use native.Mathlib.Omega.{arith}
-use mathlib.Core.Bool.{Bool, true, false, ◌&&◌, true≢false}
-use lib.Dec.{T, leb, leb→le, le→leb}
+use mathlib.Core.Bool.{Bool, true, false, not, ◌&&◌, true≢false}
+use lib.Dec.{T, leb, ltb, leb→le, le→leb, nltb→le}
 use lib.IntN.{ℤ, pos, negsuc, ◌+ℤ◌, nat_abs}
 use lib.Signed.{le_z}
 use Rattle.numbers.specs.Sum.{sum_to, pick}
 use Rattle.numbers.proofs.Sums.{sum-zero, sum-swap, sum_bound, pick-bound}
 use Rattle.spec_picture.specs.declared.Window.{Window}
-use Rattle.spec_picture.specs.Window.{window, Shape, rectangle, slanted, diamond, hexagon, rectangle_legal, diamond_legal, hexagon_legal, window_legal, shape_of, is_rectangle, height, reach, width, depth, holds, between}
+use Rattle.spec_picture.specs.Window.{window, Shape, rectangle, slanted, diamond, hexagon, rectangle_legal, diamond_legal, hexagon_legal, window_legal, shape_of, is_rectangle, height, reach, width, depth, widest_row, fits, holds, between}
 use Rattle.spec_picture.specs.declared.Frame.{Frame}
-use Rattle.spec_picture.specs.Frame.{row_gap, column_gap}
+use Rattle.spec_picture.specs.Frame.{row_gap, column_gap, Apart}
 use Rattle.spec_picture.specs.Direct.{window_sum}
 use Rattle.spec_picture.proofs.Legal.{to-127}
 use Rattle.numbers.proofs.Tests.{and_left, and_right, and_both, same_test}
@@ -143,6 +143,21 @@ unfolding width reach
 width-reach (rectangle a b) = refl
 width-reach (slanted (diamond r)) = omega arith
 width-reach (slanted (hexagon k h)) = omega arith
+
+-- no row goes further to the sides than the widest
+pub reach_width : (s : Shape) (p : ℕ) → reach s p ≤ width s
+unfolding reach width
+reach_width (rectangle a b) p = omega arith
+reach_width (slanted (diamond r)) p = omega arith
+reach_width (slanted (hexagon k h)) p = omega arith
+
+-- "its widest row must fit the columns": what the test says
+pub apart-of : (z : Frame) (w : Window) → T (fits z w) → Apart z (width (shape_of w))
+apart-of z w t = go z.columns_wrap t
+  where
+    go : (b : Bool) → T (not (b && ltb z.columns (widest_row (shape_of w)))) → T b → widest_row (shape_of w) ≤ z.columns
+    go true t u = nltb→le z.columns (widest_row (shape_of w)) t
+    go false t u = absurd u
 
 pub width_small : (w : Window) → T (window_legal w) → width (shape_of w) ≤ 127
 width_small w t = omega (arith, width-reach (shape_of w), (small w t).narrow 0)

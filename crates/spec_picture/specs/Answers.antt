@@ -19,6 +19,7 @@ number line.Position = 7
 number line.Area = 8
 number line.Sums = 9
 number line.Text = 10
+number line.Width = 11
 
 -- a refusal's number, or the result
 abbrev pub outcome_of : {A : Type 0} → Result A Refusal → Outcome A

@@ -1,10 +1,10 @@
--- "When a call is turned down": the numbered conditions 1 to 8, each a test on its inputs. (9 is in `spec_statistics`, 10 in `spec_panel`.)
+-- "When a call is turned down": the numbered conditions 1 to 8 and 11, each a test on its inputs. (9 is in `spec_statistics`, 10 in `spec_panel`.)
 -- Assumes nothing.
 use Rattle.std.specs.Prelude.{◌≡◌, ℕ, ◌-◌, not, ◌&&◌, ◌||◌, List, [], ◌∷◌, ◌++◌, ltb, eqb, length, ℤ}
 use Rattle.std.proofs.Math.Option.{none}
 use Rattle.spec_picture.specs.Refusal.{Check, ◌when◌, refusal}
 use Rattle.spec_picture.specs.declared.Window.{Window}
-use Rattle.spec_picture.specs.Window.{window_legal}
+use Rattle.spec_picture.specs.Window.{window_legal, fits}
 use Rattle.spec_picture.specs.declared.Frame.{Frame}
 use Rattle.spec_picture.specs.Frame.{frame_legal, cells}
 use Rattle.spec_picture.specs.declared.Shift.{Shift}
@@ -30,6 +30,10 @@ check4 d = 4 when not (shift_legal d)
 abbrev pub check5 : ℕ → Check
 check5 p = 5 when ltb 5 p
 
+-- 11, "widest row above columns with the switch on, checked after 5"
+abbrev pub check11 : Frame → Window → Check
+check11 z w = 11 when not (fits z w)
+
 -- 6, "cell outside the picture"
 abbrev pub check6 : Frame → ℕ → ℕ → Check
 check6 z i j = 6 when not (ltb i z.rows && ltb j z.columns)
@@ -46,11 +50,11 @@ check8 wanted given = 8 when not (eqb given wanted)
 abbrev pub picture_checks : Frame → (f g : List ℤ) → List Check
 picture_checks z f g = check1 z ∷ check2 z f ∷ check2 z g ∷ []
 
--- demand 3: "of the row call's numbered conditions, [those that look] at them alone": 1 to 5
+-- demand 3: "of the row call's numbered conditions, [those that look] at them alone": 1 to 5, and 11
 abbrev pub input_checks : Inputs → List Check
 input_checks x =
     let s = x.source in
-    picture_checks s.frame s.f s.g ++ (check3 x.window ∷ check4 s.shift ∷ check5 s.plane ∷ [])
+    picture_checks s.frame s.f s.g ++ (check3 x.window ∷ check4 s.shift ∷ check5 s.plane ∷ check11 s.frame x.window ∷ [])
 
 -- "they are accepted when .. none that looks at them alone holds"
 abbrev pub accepted : Inputs → Type 0

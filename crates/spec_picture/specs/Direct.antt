@@ -16,7 +16,7 @@ window_sum z s P i j = sum_to z.rows (λ m. sum_to z.columns (λ n. pick (holds 
 unfoldable pub direct_sum : Inputs → (i j : ℕ) → ℤ
 direct_sum x i j = window_sum x.source.frame (shape_of x.window) (plane_at x.source) i j
 
--- the call takes the inputs and a cell: 1 to 6
+-- the call takes the inputs and a cell: 1 to 5, 11 and 6
 abbrev pub direct_checks : Inputs → (i j : ℕ) → List Check
 direct_checks x i j = input_checks x ++ (check6 x.source.frame i j ∷ [])
 

@@ -9,4 +9,5 @@ pub mod Picture
 pub mod Plane
 pub mod Refusal
 pub mod Shape
+pub mod Sides
 pub mod Window

@@ -4,7 +4,7 @@ use Rattle.std.specs.Prelude.{ℕ, zero, suc, ◌+◌, ◌*◌, ◌^◌, ◌<◌
 use Rattle.std.specs.Int.Signed.{mag}
 use Rattle.numbers.specs.Sum.{pick}
 use Rattle.spec_picture.specs.declared.Frame.{Frame}
-use Rattle.spec_picture.specs.Frame.{inside, row_at, column_at}
+use Rattle.spec_picture.specs.Frame.{inside, inside_g, row_at, column_at}
 use Rattle.spec_picture.specs.declared.Window.{Window}
 use Rattle.spec_picture.specs.Window.{between}
 use Rattle.spec_picture.specs.declared.Shift.{Shift}
@@ -48,7 +48,7 @@ level_at z f m n = get_or f (m * z.columns + n) (pos 0)
 
 -- "A cell (m, n) counts when it and (m+u, n+v) are both inside the picture."
 unfoldable pub counts : Source → ℕ → ℕ → Bool
-counts x m n = inside x.frame (pos m) (pos n) && inside x.frame (pos m +ℤ x.shift.down) (pos n +ℤ x.shift.right)
+counts x m n = inside x.frame (pos m) (pos n) && inside_g x.frame (pos m +ℤ x.shift.down) (pos n +ℤ x.shift.right)
 
 -- "plane 0, one; 1, f(m, n); 2, g(m+u, n+v); 3 and 4, the squares of those two; 5, their product"
 unfoldable pub plane_value : ℕ → ℤ → ℤ → ℤ
@@ -59,7 +59,7 @@ plane_value (suc (suc (suc zero))) x y = x *ℤ x
 plane_value (suc (suc (suc (suc zero)))) x y = y *ℤ y
 plane_value (suc (suc (suc (suc (suc n))))) x y = x *ℤ y
 
--- the two levels at a counting cell: f(m, n), and g(m+u, n+v)
+-- the two levels at a counting cell: f(m, n), and g(m+u, n+v), "at the wrapped column" where columns wrap
 abbrev pub level_of : Source → ℕ → ℕ → ℤ
 level_of x m n = level_at x.frame x.f m n
 

@@ -1,6 +1,6 @@
 -- Windows: "A window sits on a cell (i, j) and holds the cells (i+p, j+q) with ..".
 -- Assumes nothing.
-use Rattle.std.specs.Prelude.{ℕ, zero, suc, ◌+◌, ◌-◌, ◌*◌, min, Bool, true, false, ◌&&◌, leb, ℤ, pos, nat_abs, ◌+ℤ◌}
+use Rattle.std.specs.Prelude.{ℕ, zero, suc, ◌+◌, ◌-◌, ◌*◌, min, Bool, true, false, not, ◌&&◌, leb, ltb, ℤ, pos, nat_abs, ◌+ℤ◌}
 use Rattle.std.specs.Int.Signed.{le_z}
 use Rattle.spec_picture.specs.declared.Frame.{Frame}
 use Rattle.spec_picture.specs.Frame.{row_gap, column_gap}
@@ -80,6 +80,14 @@ unfoldable pub depth : Shape → ℕ → ℕ
 depth (rectangle a b) q = a
 depth (slanted (diamond r)) q = r - q
 depth (slanted (hexagon k h)) q = min h ((k + h) - q)
+
+-- how many cells the widest row has, the one through the window's middle
+abbrev pub widest_row : Shape → ℕ
+widest_row s = 2 * width s + 1
+
+-- "its widest row must fit the columns" where they wrap; equality is taken
+abbrev pub fits : Frame → Window → Bool
+fits z w = not (z.columns_wrap && ltb z.columns (widest_row (shape_of w)))
 
 -- the window on the cell (i, j) holds the cell (m, n)
 abbrev pub holds : Frame → Shape → (i j m n : ℕ) → Bool

@@ -1,7 +1,7 @@
 // Inputs that checks have passed: what the checks found is in their types.
 ghost use Rattle.std.specs.Prelude.{◌≡◌, T, length};
 ghost use Rattle.spec_picture.specs.Frame.{frame_legal, cells};
-ghost use Rattle.spec_picture.specs.Window.{window, window_legal};
+ghost use Rattle.spec_picture.specs.Window.{window as window_of, window_legal, fits};
 ghost use Rattle.spec_picture.specs.Shape.{shape_number};
 ghost use Rattle.spec_picture.specs.Picture.{shift_legal, Levels};
 
@@ -14,7 +14,7 @@ pub struct CheckedWindow {
     pub shape: Shape,
     pub first: i32,
     pub second: i32,
-    pub ghost legal: { T (window_legal (window (shape_number shape) first second)) },
+    pub ghost legal: { T (window_legal (window_of (shape_number shape) first second)) },
 }
 
 // Two pictures of a legal frame.
@@ -47,11 +47,12 @@ pub struct CheckedSource<'a> {
     pub ghost shift_within: { T (shift_legal shift) },
 }
 
-// The same with a window: "they are accepted when .. none that looks at them alone holds".
+// The same with a window that fits the columns where they wrap: "they are accepted when .. none that looks at them alone holds".
 #[derive(Clone, Copy)]
 pub struct CheckedInputs<'a> {
     pub source: CheckedSource<'a>,
     pub window: CheckedWindow,
+    pub ghost fitting: { T (fits source.frame (window_of (shape_number window.shape) window.first window.second)) },
 }
 
 impl<'a> CheckedInputs<'a> {

@@ -13,11 +13,12 @@ pub use checked::{CheckedInputs, CheckedPictures, CheckedSource, CheckedTable, C
 pub use plane::Plane;
 pub use shape::Shape;
 
-// "A picture has 1 to 256 rows and 1 to 1,024 columns."
+// "A picture has 1 to 256 rows and 1 to 1,024 columns." Columns wrap where the last one is joined to the first, "as the periodic extension"; rows clip.
 #[derive(Clone, Copy)]
 pub struct Frame {
     pub rows: usize,
     pub columns: usize,
+    pub columns_wrap: bool,
 }
 
 // A cell of a picture; rows and columns count from 0.
@@ -60,7 +61,8 @@ pub struct Inputs<'a> {
     pub window: Window,
 }
 
-// Why a call is turned down: the lines of document 01's table of refusals, by their numbers, and in their order.
+// Why a call is turned down: the lines of document 01's table of refusals and those that document 02 adds, by their numbers. Checks run in number order, but for 11, which
+// comes after 5.
 #[derive(Clone, Copy, Debug, PartialEq, Eq, PartialOrd, Ord)]
 pub enum Refusal {
     Size = 1, // rows or columns beyond limits
@@ -73,6 +75,7 @@ pub enum Refusal {
     Area = 8, // table, work or output area of another length
     Sums = 9, // sums impossible
     Text = 10, // panel's text malformed
+    Width = 11, // widest row above columns with columns that wrap
 }
 
 // "Only the number comes back".

@@ -9,9 +9,9 @@ use Rattle.numbers.specs.Grid.{tabulate}
 use Rattle.numbers.specs.Wrap.{wrap}
 use Rattle.spec_picture.specs.Refusal.{refused, answered, refusal}
 use Rattle.spec_picture.specs.declared.Window.{Window}
-use Rattle.spec_picture.specs.Frame.{frame, frame_legal, in_range}
-use Rattle.spec_picture.specs.Window.{window, rectangle_legal, diamond_legal, window_legal, shape_of, width, depth}
-use Rattle.spec_picture.specs.Picture.{no_shift, shift_legal, inputs, counts, plane_value, plane_at}
+use Rattle.spec_picture.specs.Frame.{frame, looped, frame_legal, in_range}
+use Rattle.spec_picture.specs.Window.{window, rectangle_legal, diamond_legal, window_legal, rectangle, slanted, diamond, shape_of, width, depth}
+use Rattle.spec_picture.specs.Picture.{no_shift, shift_legal, inputs, level_at, counts, plane_value, plane_at}
 use Rattle.spec_rows.specs.Rows.{column_sum, cell_below, cell_above, enter_leave, work_value, work_change, work_after, output_row, strip, RowOutcome, row_result, row_call}
 
 -- 1 2 / 3 4, plane 1
@@ -52,3 +52,14 @@ other-lengths = (refl, refl, refl)
 pub past-the-last : call wide 1 2 (pos 70 ∷ pos 80 ∷ []) [] ≡ record { answer = refused 7; position = 1; work = pos 70 ∷ pos 80 ∷ []; output = [] }
 unfolding row_call row_result window_legal rectangle_legal frame_legal shift_legal refusal
 past-the-last = refl
+
+abbrev six : List ℤ
+six = pos 1 ∷ pos 2 ∷ pos 3 ∷ pos 4 ∷ pos 5 ∷ pos 6 ∷ []
+
+-- where columns wrap: "a rectangle's output" sums three numbers about each column of 1 2 3 4; from row 0 to row 1 of 1 2 3 / 4 5 6 a diamond of 1 gains 3 on either side of each column
+pub round-rows :
+    (output_row (looped 1 4) (rectangle 0 1) (pos 1 ∷ pos 2 ∷ pos 3 ∷ pos 4 ∷ []) ≡ pos 7 ∷ pos 6 ∷ pos 9 ∷ pos 8 ∷ []) ×
+    (work_change (looped 2 3) (level_at (looped 2 3) six) (slanted (diamond 1)) 0 0 ≡ pos 6) × (work_change (looped 2 3) (level_at (looped 2 3) six) (slanted (diamond 1)) 0 2 ≡ pos 6) ×
+    (work_change (frame 2 3) (level_at (frame 2 3) six) (slanted (diamond 1)) 0 0 ≡ pos 3)
+unfolding output_row work_change enter_leave cell_above cell_below width depth wrap tabulate sum_to pick
+round-rows = (refl, refl, refl, refl)

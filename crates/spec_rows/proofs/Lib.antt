@@ -1,3 +1,4 @@
+pub mod Borders
 pub mod Calls
 pub mod Cells
 pub mod Distances

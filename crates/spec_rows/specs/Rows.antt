@@ -43,7 +43,8 @@ unfoldable pub work_after : Frame → (ℕ → ℕ → ℤ) → Shape → (posit
 work_after z P s zero work = tabulate z.columns (work_value z P s 0)
 work_after z P s (suc i) work = tabulate z.columns (λ j. wrap (get_or work j (pos 0) +ℤ work_change z P s i j))
 
--- "a rectangle's output at column j is the wrapped sum of the new work area over columns j-b to j+b inside the picture; for the others the output row is the new work area"
+-- "a rectangle's output at column j is the wrapped sum of the new work area over columns j-b to j+b inside the picture", or round its edge where columns wrap; "for the others
+-- the output row is the new work area"
 unfoldable pub output_row : Frame → Shape → List ℤ → List ℤ
 output_row z (rectangle a b) work = tabulate z.columns (λ j. wrap (sum_to z.columns (λ n. pick (leb (column_gap z j n) b) (get_or work n (pos 0)))))
 output_row z (slanted o) work = work
@@ -72,7 +73,7 @@ pub record RowOutcome : Type 0 where
   pub work : List ℤ
   pub output : List ℤ
 
--- the row call takes all inputs, position, request, work and output area: 1, 2, 3, 4, 5, 7, 8
+-- the row call takes all inputs, position, request, work and output area: 1, 2, 3, 4, 5, 11, 7, 8
 abbrev pub row_checks : Inputs → (position request : ℕ) → (work output : List ℤ) → List Check
 row_checks x position request work output =
     input_checks x ++ (check7 x.source.frame position request ∷ check8 x.source.frame.columns (length work) ∷ check8 (request * x.source.frame.columns) (length output) ∷ [])

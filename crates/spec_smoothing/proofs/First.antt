@@ -92,6 +92,6 @@ unfolding first_steady
 steady-found x = find-cell (λ i j. is_steady (voice (six_sums x i j))) x.source.frame.columns 0 x.source.frame.rows
 
 -- "Checks run in number order, each where the call has that input"
-pub steady-order : (z : Frame) (f g : List ℤ) (w : Window) (d : Shift) → numbers_of (steady_checks z f g w d) ≡ 1 ∷ 2 ∷ 2 ∷ 3 ∷ 4 ∷ []
+pub steady-order : (z : Frame) (f g : List ℤ) (w : Window) (d : Shift) → numbers_of (steady_checks z f g w d) ≡ 1 ∷ 2 ∷ 2 ∷ 3 ∷ 4 ∷ 11 ∷ []
 unfolding numbers_of
 steady-order z f g w d = refl

@@ -3,7 +3,7 @@
 use mathlib.Core.Path.{◌≡◌, refl, sym, ◌∙◌, ap, subst}
 use Prim.Native.Nat.{ℕ, ◌+◌, ◌*◌, ◌^◌, ◌<◌}
 use native.Mathlib.Omega.{arith}
-use mathlib.Core.Bool.{not, ◌&&◌}
+use mathlib.Core.Bool.{not, ◌&&◌, ◌||◌}
 use mathlib.Core.List.{List, [], ◌∷◌}
 use mathlib.Core.Option.{none, some}
 use lib.Dec.{T, leb, ltb, lt→ltb, le→leb}
@@ -15,16 +15,17 @@ use Rattle.numbers.specs.Round.{nearest}
 use Rattle.numbers.proofs.Integers.{leℤ, of_le}
 use Rattle.numbers.proofs.Laws.{≤ℤ-trans}
 use Rattle.numbers.proofs.Sums.{pick_yes}
-use Rattle.numbers.proofs.Tests.{and_both, of-not}
+use Rattle.numbers.proofs.Tests.{and_both, or_right, of-not}
 use Rattle.numbers.proofs.SumOrders.{sum-le, sum-scale, sum_one, sum_nonneg, pick-le, pick-nonneg, pick-scale}
 use Rattle.numbers.proofs.Grids.{get_or-grid}
 use Rattle.numbers.proofs.Rounds.{nearest-law, nearest-within}
 use Rattle.spec_picture.specs.Refusal.{refused, answered, refusal, numbers_of}
 use Rattle.spec_picture.proofs.Refusals.{filling-none, filling-some, none-head, none_rest}
 use Rattle.spec_picture.specs.declared.Frame.{Frame}
-use Rattle.spec_picture.specs.Frame.{frame, frame_legal, in_range}
+use Rattle.spec_picture.specs.Frame.{frame, frame_legal, in_range, column_gap}
+use Rattle.spec_picture.proofs.Gaps.{gap-self}
 use Rattle.spec_picture.specs.declared.Window.{Window}
-use Rattle.spec_picture.specs.Window.{window, rectangle_legal, window_legal, Shape, shape_of, height, reach, holds}
+use Rattle.spec_picture.specs.Window.{window, rectangle_legal, window_legal, fits, Shape, shape_of, height, reach, holds}
 use Rattle.spec_picture.specs.Picture.{Levels, Inputs, counts, plane_value, plane_at, level_of}
 use Rattle.spec_picture.specs.Direct.{window_sum, direct_sum}
 use Rattle.spec_statistics.specs.SixSums.{six_sums, on_plane, count}
@@ -51,11 +52,12 @@ module _ (z : Frame) (f : List ℤ) (w : Window) where
       let e : i + 0 ≡ i = omega arith in
       let e' : j + 0 ≡ j = omega arith in
       let a = and_both (ltb i z.rows) (ltb j z.columns) (lt→ltb i z.rows hi) (lt→ltb j z.columns hj) in
-      rw (e, e') (pick_yes ((ltb i z.rows && ltb j z.columns) && (ltb i z.rows && ltb j z.columns)) (pos 1) (and_both (ltb i z.rows && ltb j z.columns) (ltb i z.rows && ltb j z.columns) a a))
+      let b = and_both (ltb i z.rows) (z.columns_wrap || ltb j z.columns) (lt→ltb i z.rows hi) (or_right z.columns_wrap (ltb j z.columns) (lt→ltb j z.columns hj)) in
+      rw (e, e') (pick_yes ((ltb i z.rows && ltb j z.columns) && (ltb i z.rows && (z.columns_wrap || ltb j z.columns))) (pos 1) (and_both (ltb i z.rows && ltb j z.columns) (ltb i z.rows && (z.columns_wrap || ltb j z.columns)) a b))
 
   -- a window holds its own cell
   own : (s : Shape) (i j : ℕ) → T (holds z s i j i j)
-  own s i j = and_both (leb (dist i i) (height s)) (leb (dist j j) (reach s (dist i i))) (le→leb (dist i i) (height s) (omega arith)) (le→leb (dist j j) (reach s (dist i i)) (omega arith))
+  own s i j = and_both (leb (dist i i) (height s)) (leb (column_gap z j j) (reach s (dist i i))) (le→leb (dist i i) (height s) (omega arith)) (le→leb (column_gap z j j) (reach s (dist i i)) (omega (arith, gap-self z j)))
 
   -- N is at least 1
   pub counted : (i j : ℕ) → i < z.rows → j < z.columns → pos 1 ≤ℤ (six_sums x i j).n
@@ -133,13 +135,16 @@ smoothed-at z f w i j hi hj = get_or-grid z.rows z.columns i j (λ i j. mean (si
 accepted-window : (z : Frame) (f : List ℤ) (w : Window) (output : List ℤ) → refusal (smooth_checks z f w output) ≡ none → T (window_legal w)
 accepted-window z f w output e = of-not (window_legal w) (none-head 3 (not (window_legal w)) _ (none_rest 2 _ _ (none_rest 1 _ _ e)))
 
+accepted-fits : (z : Frame) (f : List ℤ) (w : Window) (output : List ℤ) → refusal (smooth_checks z f w output) ≡ none → T (fits z w)
+accepted-fits z f w output e = of-not (fits z w) (none-head 11 (not (fits z w)) _ (none_rest 3 _ _ (none_rest 2 _ _ (none_rest 1 _ _ e))))
+
 -- the public mean answers at every cell of a picture that is accepted, and each number that smoothing writes is its answer: never Empty, since a cell counts itself
 pub mean-smoothed : (z : Frame) (f : List ℤ) (w : Window) (output : List ℤ) → Levels f → refusal (smooth_checks z f w output) ≡ none → (i j : ℕ) → i < z.rows → j < z.columns →
     mean_call (six_sums (alone z f w) i j) ≡ answered (some (get_or (smoothed z f w) (i * z.columns + j) (pos 0)))
 unfolding mean_call
 mean-smoothed z f w output lv e i j hi hj =
     let s = six_sums (alone z f w) i j in
-    let fair = sums-possible (alone z f w) lv lv (accepted-window z f w output e) i j in
+    let fair = sums-possible (alone z f w) lv lv (accepted-window z f w output e) (accepted-fits z f w output e) i j hj in
     let some_cell = (as-count z f w lv s.n (counted z f w i j hi hj)).1 in
     sym (answers-some s (mean s) (possible-has s fair) (λ n. omega (arith, some_cell, n)))
     ∙ ap (λ (m : ℤ). answered (some m)) (sym (smoothed-at z f w i j hi hj))
@@ -156,7 +161,7 @@ unfolding smooth_call
 smooth-keeps z f w output n e = filling-some _ _ _ n e
 
 -- "Checks run in number order, each where the call has that input"
-pub smooth-order : (z : Frame) (f : List ℤ) (w : Window) (output : List ℤ) → numbers_of (smooth_checks z f w output) ≡ 1 ∷ 2 ∷ 3 ∷ 8 ∷ []
+pub smooth-order : (z : Frame) (f : List ℤ) (w : Window) (output : List ℤ) → numbers_of (smooth_checks z f w output) ≡ 1 ∷ 2 ∷ 3 ∷ 11 ∷ 8 ∷ []
 unfolding numbers_of
 smooth-order z f w output = refl
 

@@ -9,7 +9,7 @@ use Rattle.spec_picture.specs.declared.Cell.{Cell}
 use Rattle.spec_picture.specs.Frame.{cell}
 use Rattle.spec_picture.specs.declared.Shift.{Shift}
 use Rattle.spec_picture.specs.Picture.{Inputs, inputs}
-use Rattle.spec_picture.specs.Conditions.{picture_checks, check3, check4}
+use Rattle.spec_picture.specs.Conditions.{picture_checks, check3, check4, check11}
 use Rattle.spec_statistics.specs.SixSums.{six_sums}
 use Rattle.spec_statistics.specs.Voice.{Voice, empty, steady, grainy, voice}
 
@@ -36,9 +36,9 @@ find_cell test columns i (suc n) = or_else i (find_column (test i) 0 columns) (f
 unfoldable pub first_steady : Inputs → Option Cell
 first_steady x = find_cell (λ i j. is_steady (voice (six_sums x i j))) x.source.frame.columns 0 x.source.frame.rows
 
--- 1 to 4: the inputs' checks but the plane's
+-- 1 to 4, and 11: the inputs' checks but the plane's
 abbrev pub steady_checks : Frame → (f g : List ℤ) → Window → Shift → List Check
-steady_checks z f g w d = picture_checks z f g ++ (check3 w ∷ check4 d ∷ [])
+steady_checks z f g w d = picture_checks z f g ++ (check3 w ∷ check4 d ∷ check11 z w ∷ [])
 
 -- the inputs have plane 0 for want of one; `six_sums` takes its own
 unfoldable pub steady_call : Frame → (f g : List ℤ) → Window → Shift → Outcome (Option Cell)

@@ -1,7 +1,7 @@
 -- The six direct sums of a cell are never impossible.
 -- Assumes nothing.
 use mathlib.Core.Path.{◌≡◌, refl, subst}
-use Prim.Native.Nat.{ℕ, zero, suc, ◌+◌, ◌*◌, ◌^◌, ◌≤◌}
+use Prim.Native.Nat.{ℕ, zero, suc, ◌+◌, ◌*◌, ◌^◌, ◌≤◌, ◌<◌}
 use native.Mathlib.Omega.{arith}
 use mathlib.Core.Bool.{Bool, true, false, ◌&&◌}
 use lib.Dec.{T, leb}
@@ -12,11 +12,12 @@ use Rattle.numbers.proofs.Integers.{leℤ}
 use Rattle.numbers.proofs.Laws.{add-nonneg, sub-of-le}
 use Rattle.numbers.proofs.Magnitudes.{size-add}
 use Rattle.numbers.proofs.Sums.{near-bound, pick-bound}
-use Rattle.spec_picture.specs.Window.{window_legal, shape_of, height, reach, holds}
-use Rattle.spec_picture.specs.Frame.{row_gap, column_gap}
+use Rattle.spec_picture.specs.Window.{window_legal, shape_of, height, reach, holds, fits}
+use Rattle.spec_picture.specs.Frame.{row_gap, column_gap, Apart}
 use Rattle.spec_picture.specs.Picture.{Levels, Inputs, counts, plane_value, plane_at, level_of, other_of}
 use Rattle.spec_picture.specs.Direct.{window_sum, direct_sum}
-use Rattle.spec_picture.proofs.Windows.{small, by_rows}
+use Rattle.spec_picture.proofs.Gaps.{columns-bound}
+use Rattle.spec_picture.proofs.Windows.{small, by_rows, reach_width, apart-of}
 use Rattle.spec_picture.proofs.Planes.{level-bound, other-bound, product-bound}
 use Rattle.spec_statistics.proofs.Forms.{Psd, psd-one, psd-add, only, var-nonneg, square-le-T, cauchy}
 use Rattle.spec_statistics.proofs.Bounds.{Possible, possible-of}
@@ -127,9 +128,9 @@ module _ (x : Inputs) (hf : Levels x.source.f) (hg : Levels x.source.g) (i j : �
   ones m n = omega (arith, pick-bound (counts x.source m n) (pos 1))
 
   -- N is at most 65,025: at most 255 rows of at most 255 cells
-  pub count-bound : T (window_legal x.window) → nat_abs (six_sums x i j).n ≤ 65025
+  pub count-bound : T (window_legal x.window) → T (fits x.source.frame x.window) → j < x.source.frame.columns → nat_abs (six_sums x i j).n ≤ 65025
   unfolding direct_sum
-  count-bound t =
+  count-bound t fitting j< =
       let s = shape_of x.window in
       let k = small x.window t in
       let P = plane_at (on_plane x 0).source in
@@ -137,9 +138,12 @@ module _ (x : Inputs) (hf : Levels x.source.f) (hg : Levels x.source.g) (i j : �
       (omega (
         arith,
         near-bound x.source.frame.rows i (height s) 255 (λ m. sum_to x.source.frame.columns (λ n. pick (leb (column_gap x.source.frame j n) (reach s (row_gap x.source.frame i m))) (P m n)))
-            (λ m. omega (arith, near-bound x.source.frame.columns j (reach s (row_gap x.source.frame i m)) 1 (P m) (λ n. ones m n), k.narrow (row_gap x.source.frame i m))),
+            (λ m. omega (arith, columns-bound x.source.frame j (reach s (row_gap x.source.frame i m)) j< (narrower m) 1 (P m) (λ n. ones m n), k.narrow (row_gap x.source.frame i m))),
         k.low,
       ))
+    where
+      narrower : (m : ℕ) → Apart x.source.frame (reach (shape_of x.window) (row_gap x.source.frame i m))
+      narrower m t = omega (arith, apart-of x.source.frame x.window fitting t, reach_width (shape_of x.window) (row_gap x.source.frame i m))
 
 -- ---- from the properties to the test
 fair-possible : (z : Sums) → Fair z → nat_abs z.n ≤ 65025 → Possible z
@@ -161,6 +165,6 @@ fair-possible z f k = record {
 }
 
 -- no statistic answers 9 to the six direct sums
-pub sums-possible : (x : Inputs) → Levels x.source.f → Levels x.source.g → T (window_legal x.window) → (i j : ℕ) → impossible (six_sums x i j) ≡ false
-sums-possible x hf hg t i j =
-    possible-of (six_sums x i j) (fair-possible (six_sums x i j) (sums-fair x hf hg i j) (count-bound x hf hg i j t))
+pub sums-possible : (x : Inputs) → Levels x.source.f → Levels x.source.g → T (window_legal x.window) → T (fits x.source.frame x.window) → (i j : ℕ) → j < x.source.frame.columns → impossible (six_sums x i j) ≡ false
+sums-possible x hf hg t fitting i j j< =
+    possible-of (six_sums x i j) (fair-possible (six_sums x i j) (sums-fair x hf hg i j) (count-bound x hf hg i j t fitting j<))

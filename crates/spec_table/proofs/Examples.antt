@@ -11,9 +11,11 @@ use Rattle.numbers.specs.Wrap.{wrap}
 use Rattle.numbers.proofs.Linear.{any, sums, ring}
 use Rattle.spec_picture.specs.declared.Frame.{Frame}
 use Rattle.spec_picture.specs.declared.Window.{Window}
-use Rattle.spec_picture.specs.Frame.{frame}
-use Rattle.spec_picture.specs.Window.{window, shape_of, height, reach}
-use Rattle.spec_table.specs.Table.{corner, four_corners, read_shape, read_table}
+use Rattle.spec_picture.specs.Frame.{frame, looped, frame_legal}
+use Rattle.spec_picture.specs.Window.{window, shape_of, height, reach, width, window_legal, rectangle_legal}
+use Rattle.spec_picture.specs.Refusal.{refusal}
+use mathlib.Core.Option.{some}
+use Rattle.spec_table.specs.Table.{corner, four_corners, read_shape, read_table, read_checks}
 
 no_rows : (a b : ℤ) → a -ℤ a -ℤ b +ℤ b ≡ pos 0
 no_rows a b = ring (search (sums, any a, any b)) (omega arith)
@@ -53,9 +55,13 @@ module _ (z : Frame) (t : List ℤ) where
   unfolding four_corners corner
   above-0 left right = refl
 
-  pub left-0 : (top bottom : ℕ) → four_corners z t top bottom 0 0 ≡ pos 0
+  -- nor is there a column between a column and itself, as on the left of the picture
+  pub no-width : (top bottom at : ℕ) → four_corners z t top bottom at at ≡ pos 0
   unfolding four_corners
-  left-0 top bottom = no-columns (corner z t bottom 0) (corner z t top 0)
+  no-width top bottom at = no-columns (corner z t bottom at) (corner z t top at)
+
+  pub left-0 : (top bottom : ℕ) → four_corners z t top bottom 0 0 ≡ pos 0
+  left-0 top bottom = no-width top bottom 0
 
 -- 5 7 / 11 100, and 0 -1 / 0 2^63-1
 abbrev foreign : List ℤ
@@ -73,3 +79,13 @@ pub foreign-sums :
     (sum foreign (window 2 (pos 1) (pos 0)) 0 0 ≡ pos 13) × (sum large (window 1 (pos 0) (pos 0)) 1 1 ≡ negsuc 9223372036854775807)
 unfolding read_table read_shape four_corners corner shape_of height reach wrap sum_to pick
 foreign-sums = (refl, refl, refl, refl)
+
+-- where columns wrap, "for foreign contents too": 5 7 11 100 over 1 x 4, a row of three about the first column and about the last; a rectangle over the rows of 5 7 / 11 100 that is two columns wide does not fit
+abbrev loop : Window → (j : ℕ) → ℤ
+loop w j = read_table (looped 1 4) foreign w 0 j
+
+pub round-sums :
+    (loop (window 1 (pos 0) (pos 1)) 0 ≡ pos 96) × (loop (window 1 (pos 0) (pos 1)) 3 ≡ pos 98) × (loop (window 1 (pos 0) (pos 1)) 1 ≡ pos 11) × (loop (window 2 (pos 1) (pos 0)) 0 ≡ pos 96) ×
+    (refusal (read_checks (looped 2 2) foreign (window 1 (pos 0) (pos 1)) 2 0) ≡ some 11)
+unfolding read_table read_shape four_corners corner shape_of height reach width wrap sum_to pick refusal frame_legal window_legal rectangle_legal
+round-sums = (refl, refl, refl, refl, refl)

@@ -1,6 +1,6 @@
 -- "Cumulative table": building and reading.
 -- Assumes nothing.
-use Rattle.std.specs.Prelude.{ℕ, zero, suc, ◌+◌, ◌*◌, ◌-◌, min, List, [], ◌∷◌, ◌++◌, leb, length, get_or, ℤ, pos, ◌+ℤ◌, ◌-ℤ◌}
+use Rattle.std.specs.Prelude.{ℕ, zero, suc, ◌+◌, ◌*◌, ◌-◌, min, List, [], ◌∷◌, ◌++◌, Bool, true, false, leb, length, get_or, ℤ, pos, ◌+ℤ◌, ◌-ℤ◌}
 use Rattle.numbers.specs.Sum.{sum_to, pick}
 use Rattle.numbers.specs.Grid.{grid}
 use Rattle.numbers.specs.Wrap.{wrap}
@@ -10,7 +10,7 @@ use Rattle.spec_picture.specs.Window.{Shape, rectangle, slanted, shape_of, heigh
 use Rattle.spec_picture.specs.declared.Frame.{Frame}
 use Rattle.spec_picture.specs.Frame.{row_gap, cells}
 use Rattle.spec_picture.specs.Picture.{Source, plane_at}
-use Rattle.spec_picture.specs.Conditions.{check1, check3, check4, check5, check6, check8, picture_checks}
+use Rattle.spec_picture.specs.Conditions.{check1, check3, check4, check5, check6, check8, check11, picture_checks}
 
 -- ---- building
 -- "T(i, j) = the plane's sum over all (p, q) with p ≤ i and q ≤ j"
@@ -41,9 +41,14 @@ corner z t (suc x) (suc y) = get_or t (min x (z.rows - 1) * z.columns + min y (z
 unfoldable pub four_corners : Frame → List ℤ → (top bottom left right : ℕ) → ℤ
 four_corners z t top bottom left right = corner z t bottom right -ℤ corner z t top right -ℤ corner z t bottom left +ℤ corner z t top left
 
+-- where columns wrap: the columns past the last one are the first ones, and those before the first one are the last ones
+abbrev pub round_the_edge : Bool → Frame → List ℤ → (top bottom b j : ℕ) → ℤ
+round_the_edge false z t top bottom b j = pos 0
+round_the_edge true z t top bottom b j = four_corners z t top bottom 0 (suc (j + b) - z.columns) +ℤ four_corners z t top bottom (z.columns - (b - j)) z.columns
+
 -- the rectangle of half sizes a and b on the cell (i, j)
 abbrev pub read_rectangle : Frame → List ℤ → (a b i j : ℕ) → ℤ
-read_rectangle z t a b i j = four_corners z t (i - a) (suc (i + a)) (j - b) (suc (j + b))
+read_rectangle z t a b i j = four_corners z t (i - a) (suc (i + a)) (j - b) (suc (j + b)) +ℤ round_the_edge z.columns_wrap z t (i - a) (suc (i + a)) b j
 
 -- "A diamond or hexagon is read as one-row rectangles."
 abbrev pub read_rows : Frame → List ℤ → Shape → (i j : ℕ) → ℤ
@@ -57,9 +62,9 @@ read_shape z t (slanted o) i j = wrap (read_rows z t (slanted o) i j)
 unfoldable pub read_table : Frame → List ℤ → Window → (i j : ℕ) → ℤ
 read_table z t w i j = read_shape z t (shape_of w) i j
 
--- reading takes the table, the frame, a window and a cell: 1, 3, 6, 8
+-- reading takes the table, the frame, a window and a cell: 1, 3, 11, 6, 8
 abbrev pub read_checks : Frame → List ℤ → Window → ℕ → ℕ → List Check
-read_checks z t w i j = check1 z ∷ check3 w ∷ check6 z i j ∷ check8 (cells z) (length t) ∷ []
+read_checks z t w i j = check1 z ∷ check3 w ∷ check11 z w ∷ check6 z i j ∷ check8 (cells z) (length t) ∷ []
 
 unfoldable pub read_call : Frame → List ℤ → Window → ℕ → ℕ → Outcome ℤ
 read_call z t w i j = outcome (refusal (read_checks z t w i j)) (read_table z t w i j)

@@ -1,6 +1,6 @@
 -- The voice answer of a cell: it is never refused, and N, S and A alone decide it.
 -- Assumes nothing.
-use mathlib.Core.Path.{◌≡◌, refl, ◌∙◌, ap}
+use mathlib.Core.Path.{◌≡◌, refl, sym, ◌∙◌, ap}
 use mathlib.Core.Bool.{Bool, false}
 use mathlib.Core.List.{List}
 use Prim.Native.Nat.{ℕ, ◌+◌, ◌*◌, ◌<◌}
@@ -50,12 +50,12 @@ possible-first z e =
 
 -- ---- the public answer
 module _ (x : Inputs) (c : Checked x) where
-  pub cell-possible : (i j : ℕ) → impossible (six_sums x i j) ≡ false
-  cell-possible i j = sums-possible x c.levels_f c.levels_g c.window i j
+  pub cell-possible : (i j : ℕ) → j < x.source.frame.columns → impossible (six_sums x i j) ≡ false
+  cell-possible i j j< = sums-possible x c.levels_f c.levels_g c.window c.fitting i j j<
 
-  pub voice_answers : (i j : ℕ) → voice_call (six_sums x i j) ≡ answered (voice (six_sums x i j))
+  pub voice_answers : (i j : ℕ) → j < x.source.frame.columns → voice_call (six_sums x i j) ≡ answered (voice (six_sums x i j))
   unfolding voice_call
-  voice_answers i j = answers (six_sums x i j) (voice (six_sums x i j)) (possible-has (six_sums x i j) (cell-possible i j))
+  voice_answers i j j< = answers (six_sums x i j) (voice (six_sums x i j)) (possible-has (six_sums x i j) (cell-possible i j j<))
 
 -- a voice answer that is Steady
 abbrev pub answers_steady : Outcome Voice → Bool
@@ -65,7 +65,9 @@ answers_steady (answered v) = is_steady v
 -- "the first cell in row order whose voice answer is Steady": the answer to the six direct sums of the cell
 pub first-by-answers : (x : Inputs) → Checked x → first_steady x ≡ find_cell (λ i j. answers_steady (voice_call (six_sums x i j))) x.source.frame.columns 0 x.source.frame.rows
 unfolding first_steady
-first-by-answers x c = simp (voice_answers x c)
+first-by-answers x c =
+    same-cells (λ i j. is_steady (voice (six_sums x i j))) (λ i j. answers_steady (voice_call (six_sums x i j))) x.source.frame.columns 0 x.source.frame.rows
+    (λ i j i< j<. ap answers_steady (sym (voice_answers x c i j j<)))
 
 -- ---- from N, S and A of m rows from row i on
 pub record RowsHeard (x : Inputs) (i m : ℕ) (n s a : List ℤ) : Type 0 where
@@ -78,7 +80,7 @@ module _ (x : Inputs) (i m : ℕ) (n s a : List ℤ) (h : RowsHeard x i m n s a)
   sums-are r j k l = rw (h.counted r j k l, h.summed r j k l, h.squared r j k l)
 
   pub rows-possible : Checked x → (r j : ℕ) → r < m → j < x.source.frame.columns → impossible (sums_at n s a (r * x.source.frame.columns + j)) ≡ false
-  rows-possible c r j k l = ap impossible (sums-are r j k l) ∙ possible-first (six_sums x (i + r) j) (cell-possible x c (i + r) j)
+  rows-possible c r j k l = ap impossible (sums-are r j k l) ∙ possible-first (six_sums x (i + r) j) (cell-possible x c (i + r) j l)
 
   -- the first steady cell of those numbers is that of the rows
   pub rows-steady : find_cell (steady_in x.source.frame.columns n s a) x.source.frame.columns 0 m ≡ find_cell (λ r. steady_at x (i + r)) x.source.frame.columns 0 m

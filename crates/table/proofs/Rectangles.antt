@@ -1,26 +1,29 @@
 -- A rectangle's corners and their sum, as code finds them.
 -- Assumes nothing.
-use mathlib.Core.Path.{◌≡◌, refl, sym, ◌∙◌, ap}
+use mathlib.Core.Path.{◌≡◌, refl, sym, ◌∙◌, ap, ap₂}
 use mathlib.Core.List.{List}
 use Prim.Native.Nat.{ℕ, zero, suc, ◌+◌, ◌-◌, ◌*◌, ◌≤◌, ◌<◌, min}
 use native.Mathlib.Omega.{arith}
-use mathlib.Core.Bool.{true, false, true≢false}
-use lib.Dec.{T}
+use mathlib.Core.Bool.{Bool, true, false, ◌&&◌, ◌||◌, true≢false}
+use Rattle.numbers.proofs.Tests.{or-false-left, or-false-right, off}
+use lib.Dec.{T, ltb, ltb→lt, nltb→le}
 use lib.ListN.{length, get_or}
-use lib.IntN.{ℤ, pos, ◌+ℤ◌, ◌-ℤ◌}
+use lib.IntN.{ℤ, pos, ◌+ℤ◌, ◌-ℤ◌, +ℤ_idr}
 use Rattle.numbers.specs.Sum.{sum_to}
 use Rattle.numbers.specs.Wrap.{wrap}
 use Rattle.numbers.proofs.Grids.{place_inside}
 use Rattle.numbers.proofs.Sums.{near-range}
 use Rattle.numbers.proofs.Running.{wrap-wrap}
-use Rattle.numbers.proofs.Wraps.{wrap-add, wrap-sub}
+use Rattle.numbers.proofs.Wraps.{wrap-add, wrap-sub, wrap-both, wrap-small}
 use Rattle.spec_picture.specs.declared.Frame.{Frame}
 use Rattle.spec_picture.specs.Frame.{frame_legal, row_gap, cells}
 use Rattle.spec_picture.specs.Window.{Shape, rectangle, slanted, window_legal, shape_of, is_rectangle, height, reach, width}
 use Rattle.spec_picture.specs.declared.Window.{Window}
 use Rattle.spec_picture.proofs.Refusals.{InLimits, in-limits}
-use Rattle.spec_picture.proofs.Windows.{dual, small}
-use Rattle.spec_table.specs.Table.{corner, four_corners, read_rectangle, read_rows, read_shape}
+use Rattle.spec_picture.proofs.Windows.{dual, small, reach_width}
+use Rattle.table.specs.Ends.{beyond_an_end, Round}
+use Rattle.spec_table.specs.Table.{corner, four_corners, round_the_edge, read_rectangle, read_rows, read_shape}
+use Rattle.spec_table.proofs.Examples.{no-width}
 
 -- ---- a corner
 module _ (z : Frame) (t : List ℤ) where
@@ -66,6 +69,89 @@ pub four-read : (z : Frame) (t : List ℤ) (top bottom left right : ℕ) (a b c 
 unfolding four_corners
 four-read z t top bottom left right a b c d v w r ea eb ec ed ev ew er =
     rw (er, ew, ev, ← ea, ← eb, ← ec, ← ed) (wrap-four a b c d)
+
+-- a stretch of no columns
+pub none-read : (z : Frame) (t : List ℤ) (top bottom left right : ℕ) → left ≡ right → pos 0 ≡ wrap (four_corners z t top bottom left right)
+none-read z t top bottom left right e = sym (ap wrap (ap (λ (k : ℕ). four_corners z t top bottom k right) e ∙ no-width z t top bottom right) ∙ wrap-small (pos 0) (omega arith))
+
+-- ---- past the ends of the row
+module _ (z : Frame) (t : List ℤ) (top bottom b j : ℕ) where
+  -- no column lies there where columns clip, or where the window does not reach so far
+  none-beyond : (w : Bool) → (w && (ltb z.columns (suc (j + b)) || ltb j b)) ≡ false → round_the_edge w z t top bottom b j ≡ pos 0
+  none-beyond false e = refl
+  none-beyond true e =
+      let within = nltb→le z.columns (suc (j + b)) (rw (or-false-left (ltb z.columns (suc (j + b))) (ltb j b) e) tt) in
+      let near = nltb→le j b (rw (or-false-right (ltb z.columns (suc (j + b))) (ltb j b) e) tt) in
+      let past : suc (j + b) - z.columns ≡ 0 = omega (arith, within) in
+      let before : z.columns - (b - j) ≡ z.columns = omega (arith, near) in
+      ap₂ (λ (u v : ℕ). four_corners z t top bottom 0 u +ℤ four_corners z t top bottom v z.columns) past before
+      ∙ ap₂ ◌+ℤ◌ (no-width z t top bottom 0) (no-width z t top bottom z.columns)
+
+  -- what was read there
+  pub beyond-read : (past before : ℕ) → past ≡ suc (j + b) - z.columns → before ≡ z.columns - (b - j) → (u v y : ℤ) → u ≡ wrap (four_corners z t top bottom 0 past) → v ≡ wrap (four_corners z t top bottom before z.columns)
+      → y ≡ wrap (u +ℤ v) → y ≡ wrap (round_the_edge true z t top bottom b j)
+  beyond-read past before ep eb u v y eu ev ey =
+      let first = four_corners z t top bottom 0 (suc (j + b) - z.columns) in
+      let last = four_corners z t top bottom (z.columns - (b - j)) z.columns in
+      let is-first : u ≡ wrap first = rw (← ep) eu in
+      let is-last : v ≡ wrap last = rw (← eb) ev in
+      ey ∙ ap₂ (λ (p q : ℤ). wrap (p +ℤ q)) is-first is-last ∙ wrap-both first last
+
+module _ (z : Frame) (t : List ℤ) (a b i j top bottom left right : ℕ) (et : top ≡ i - a) (eb : bottom ≡ suc (i + a)) (el : left ≡ j - b) (er : right ≡ suc (j + b)) (x : ℤ) (ex : x ≡ wrap (four_corners z t top bottom left right)) where
+  abbrev along : ℤ
+  along = four_corners z t (i - a) (suc (i + a)) (j - b) (suc (j + b))
+
+  is-along : x ≡ wrap along
+  is-along = rw (← et, ← eb, ← el, ← er) ex
+
+  -- the rectangle, where it does not go round, and where it does
+  pub along-read : beyond_an_end z b j ≡ false → x ≡ wrap (read_rectangle z t a b i j)
+  along-read none =
+      is-along ∙ ap wrap (sym (+ℤ_idr along) ∙ ap (λ (v : ℤ). along +ℤ v) (sym (none-beyond z t (i - a) (suc (i + a)) b j z.columns_wrap none)))
+
+  pub round-read : z.columns_wrap ≡ true → (y r : ℤ) → y ≡ wrap (round_the_edge true z t top bottom b j) → r ≡ wrap (x +ℤ y) → r ≡ wrap (read_rectangle z t a b i j)
+  round-read wraps y r ey e =
+      let is-beyond : y ≡ wrap (round_the_edge true z t (i - a) (suc (i + a)) b j) = rw (← et, ← eb) ey in
+      e ∙ ap₂ (λ (p q : ℤ). wrap (p +ℤ q)) is-along is-beyond ∙ wrap-both along (round_the_edge true z t (i - a) (suc (i + a)) b j)
+      ∙ ap (λ (w : Bool). wrap (along +ℤ round_the_edge w z t (i - a) (suc (i + a)) b j)) (sym wraps)
+
+-- a window's widest row tells for the others
+narrower : (z : Frame) (j b w : ℕ) → b ≤ w → beyond_an_end z w j ≡ false → beyond_an_end z b j ≡ false
+narrower z j b w l e = go z.columns_wrap e
+  where
+    go : (s : Bool) → (s && (ltb z.columns (suc (j + w)) || ltb j w)) ≡ false → (s && (ltb z.columns (suc (j + b)) || ltb j b)) ≡ false
+    go false e = refl
+    go true e =
+        let within = nltb→le z.columns (suc (j + w)) (rw (or-false-left (ltb z.columns (suc (j + w))) (ltb j w) e) tt) in
+        let near = nltb→le j w (rw (or-false-right (ltb z.columns (suc (j + w))) (ltb j w) e) tt) in
+        off (ltb z.columns (suc (j + b)) || ltb j b) (λ t. none (ltb z.columns (suc (j + b))) (ltb j b) (λ u. omega (arith, ltb→lt z.columns (suc (j + b)) u, within)) (λ u. omega (arith, ltb→lt j b u, near)) t)
+      where
+        none : (p q : Bool) → (T p → ⊥) → (T q → ⊥) → T (p || q) → ⊥
+        none true q h k t = h tt
+        none false q h k t = k t
+
+pub row-round : (z : Frame) (s : Shape) (j d b : ℕ) (round : Bool) → b ≡ reach s d → Round z (width s) j round → Round z b j round
+row-round z s j d b round e r = record {
+  none = λ t. narrower z j b (width s) (omega (arith, e, reach_width s d)) (r.none t);
+  wraps = r.wraps;
+}
+
+pub same-round : (z : Frame) (w j b : ℕ) (round : Bool) → b ≡ w → Round z w j round → Round z b j round
+same-round z w j b round e r = record { none = λ t. ap (λ (k : ℕ). beyond_an_end z k j) e ∙ r.none t; wraps = r.wraps }
+
+-- what the test of the widest row says
+pub goes-round : (z : Frame) (w j : ℕ) → z.columns_wrap ≡ true → Round z w j true
+goes-round z w j wraps = record { none = λ t. absurd t; wraps = λ t. wraps }
+
+pub goes-not : (z : Frame) (w j b : ℕ) → b ≡ w → beyond_an_end z b j ≡ false → Round z w j false
+goes-not z w j b e is = record { none = λ t. ap (λ (k : ℕ). beyond_an_end z k j) (sym e) ∙ is; wraps = λ t. absurd t }
+
+pub does-wrap : (z : Frame) (w j : ℕ) → beyond_an_end z w j ≡ true → z.columns_wrap ≡ true
+does-wrap z w j e = on-left z.columns_wrap (ltb z.columns (suc (j + w)) || ltb j w) e
+  where
+    on-left : (p q : Bool) → (p && q) ≡ true → p ≡ true
+    on-left true q e = refl
+    on-left false q e = e
 
 -- ---- a window row by row
 -- the part of row m that lies in the window on (i, j)

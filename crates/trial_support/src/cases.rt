@@ -7,6 +7,7 @@ use spec_picture::{Cell, Frame, Shift, Window};
 pub struct Case {
     pub rows: usize,
     pub columns: usize,
+    pub columns_wrap: bool,
     pub shape: u32, // 1 rectangle, 2 diamond, 3 hexagon
     pub first: usize,
     pub second: usize,
@@ -33,6 +34,7 @@ impl Case {
         Frame {
             rows: self.rows,
             columns: self.columns,
+            columns_wrap: self.columns_wrap,
         }
     }
 
@@ -121,14 +123,15 @@ fn shift_number(n: u64, inside: u16, limit: u16) -> i32 {
     raised as i32 - i32::from(most)
 }
 
-// The k-th case: all pairs of a shape and a plane in turn, of up to 24 rows and 40 columns. Three of every 24 have one row, one column, or both; two of every 36
-// have 256 rows or 1,024 columns.
-pub fn kth(k: usize) -> Case {
+// The k-th case whose columns clip: all pairs of a shape and a plane in turn, of up to 24 rows and 40 columns. Three of every 24 have one row, one column, or both; two of
+// every 36 have 256 rows or 1,024 columns.
+fn clipped(k: usize) -> Case {
     let n = |place| random::at(2024, k.wrapping_mul(8).wrapping_add(place));
     let shape = [1u32, 2, 3][k % 3];
     let case = Case {
         rows: (n(0) / 64 % 24 + 1) as usize,
         columns: (n(1) / 64 % 40 + 1) as usize,
+        columns_wrap: false,
         shape,
         first: chosen_number(n(2), shape),
         second: if shape == 2 {
@@ -150,5 +153,73 @@ pub fn kth(k: usize) -> Case {
         (_, 5) => case.with_size(256, 4),
         (_, 22) => case.with_size(1, 1024),
         _ => case,
+    }
+}
+
+// The case with a window of its shape whose widest row reaches so far to both sides; n chooses its height.
+fn with_width(case: Case, width: usize, n: u64) -> Case {
+    let height = chosen_number(n, case.shape);
+    match case.shape {
+        1 => Case {
+            first: height,
+            second: width,
+            ..case
+        },
+        2 => Case {
+            first: width,
+            second: 0,
+            ..case
+        },
+        _ => Case {
+            first: width.saturating_sub(height),
+            second: height.min(width),
+            ..case
+        },
+    }
+}
+
+// The k-th case whose columns wrap: the k-th whose columns clip, two of five with 1 to 7 columns and a shift that goes round often. Of eight windows one is too wide for the
+// columns, two are as wide as they allow, and the others are narrower.
+fn wrapped(k: usize) -> Case {
+    let n = |place| random::at(2025, k.wrapping_mul(4).wrapping_add(place));
+    let base = clipped(k);
+    let few = k % 5 < 2;
+    let case = Case {
+        columns: if few {
+            (n(0) / 64 % 7 + 1) as usize
+        } else {
+            base.columns
+        },
+        columns_wrap: true,
+        shift: if few {
+            Shift {
+                right: (n(1) / 64 % 2047) as i32 - 1023,
+                ..base.shift
+            }
+        } else {
+            base.shift
+        },
+        ..base
+    };
+    let widest = case.columns.saturating_sub(1) / 2;
+    let width = match n(2) / 3 % 8 {
+        0 => widest.saturating_add(1),
+        1 | 2 => widest,
+        _ => (n(2) / 64) as usize % widest.max(1),
+    };
+    with_width(case, width.min(127), n(3))
+}
+
+// The k-th case of a border.
+pub fn kth(k: usize, columns_wrap: bool) -> Case {
+    if columns_wrap { wrapped(k) } else { clipped(k) }
+}
+
+// The words after the name of a group that say its border.
+pub fn border(columns_wrap: bool) -> &'static str {
+    if columns_wrap {
+        ", columns that wrap"
+    } else {
+        ""
     }
 }

@@ -2,7 +2,7 @@
 use local_statistics::{Cell, Refusal, rows_plain};
 use std::io;
 use trial_support::cases::Case;
-use trial_support::rival::{Given, total};
+use trial_support::rival::{Given, near, too_wide, total};
 use trial_support::tally::Tally;
 use trial_support::{cases, random};
 
@@ -30,17 +30,17 @@ fn work(given: Given, before: &Progress, fresh: bool, cell: Cell) -> i64 {
     }
 }
 
-// The output number at a cell: of a fresh session the direct sum; "the wrapped sum of the new work area over columns j-b to j+b inside the picture; for the others ..
-// the new work area".
+// The output number at a cell: of a fresh session the direct sum; "the wrapped sum of the new work area over columns j-b to j+b inside the picture", or round the edge where
+// columns wrap; "for the others .. the new work area".
 fn output(given: Given, before: &Progress, fresh: bool, on: Cell) -> i64 {
     let c = given.case;
     match (fresh, c.shape) {
         (true, _) => given.sum(on),
         (false, 1) => total(c.columns, |column| {
-            if column.abs_diff(on.column) > c.second {
-                0
-            } else {
+            if near(c, on.column, column, c.second) {
                 work(given, before, fresh, Cell { column, ..on })
+            } else {
+                0
             }
         }),
         _ => work(given, before, fresh, on),
@@ -73,6 +73,10 @@ fn granted(given: Given, fresh: bool, request: usize, before: &Progress) -> Prog
 
 // The refusal of a call, none where it is to be granted.
 fn refused(c: Case, position: usize, request: usize, lent: usize) -> Option<Refusal> {
+    let refusal = too_wide(c);
+    if refusal.is_some() {
+        return refusal;
+    }
     match c.rows.checked_sub(position) {
         Some(left) if request <= left => {
             let fits = lent == request.saturating_mul(c.columns);
@@ -82,10 +86,15 @@ fn refused(c: Case, position: usize, request: usize, lent: usize) -> Option<Refu
     }
 }
 
-// One call, in seven of eight with an output area of the length that it wants: its answer, the position, and both areas with a number after them.
+// One call, where columns wrap now and then for all rows that are left, in seven of eight with an output area of the length that it wants: its answer, the position, and both areas with a number after them.
 fn call(given: Given, fresh: bool, n: u64, before: Progress, t: Tally) -> (Progress, Tally) {
     let c = given.case;
-    let request = [1usize, 2, 3, 0, 5, 300][(n / 64 % 6) as usize];
+    let left = c.rows.saturating_sub(before.position);
+    let request = if c.columns_wrap {
+        [1usize, 4, 0, 2, left, 300][(n / 64 % 6) as usize]
+    } else {
+        [1usize, 2, 3, 0, 5, 300][(n / 64 % 6) as usize]
+    };
     let wrong = usize::from(n / 4096 % 8 == 0);
     let lent = request
         .saturating_mul(c.columns)
@@ -132,11 +141,20 @@ fn session(case: Case, fresh: bool, tally: Tally) -> Tally {
     t
 }
 
-fn lists(fresh: bool) -> Tally {
-    (0..72).fold(Tally::default(), |t, k| session(cases::kth(k), fresh, t))
+fn lists(fresh: bool, columns_wrap: bool) -> Tally {
+    (0..72).fold(Tally::default(), |t, k| {
+        session(cases::kth(k, columns_wrap), fresh, t)
+    })
 }
 
-pub fn run(rt: &impl Print) -> io::Result<()> {
-    println!(rt; "rows of fresh sessions: {}", lists(true))?;
-    println!(rt; "rows of foreign sessions: {}", lists(false))
+pub fn run(rt: &impl Print, columns_wrap: bool) -> io::Result<()> {
+    let border = cases::border(columns_wrap);
+    println!(rt;
+        "rows of fresh sessions{border}: {}",
+        lists(true, columns_wrap)
+    )?;
+    println!(rt;
+        "rows of foreign sessions{border}: {}",
+        lists(false, columns_wrap)
+    )
 }

@@ -88,7 +88,9 @@ fn of_case(case: Case, tally: Tally) -> Tally {
     (0..24).fold(tally, |t, k| of_sums(six(given, case.scattered(k)), t))
 }
 
-pub fn run(rt: &impl Print) -> io::Result<()> {
-    let t = (0..72).fold(Tally::default(), |t, k| of_case(cases::kth(k), t));
-    println!(rt; "statistics: {t}")
+pub fn run(rt: &impl Print, columns_wrap: bool) -> io::Result<()> {
+    let t = (0..72).fold(Tally::default(), |t, k| {
+        of_case(cases::kth(k, columns_wrap), t)
+    });
+    println!(rt; "statistics{}: {t}", cases::border(columns_wrap))
 }

@@ -3,7 +3,7 @@ use local_statistics::{Cell, Shift, smooth, steady};
 use std::io;
 use trial_support::cases::Case;
 use trial_support::random::CELLS;
-use trial_support::rival::{Given, moments};
+use trial_support::rival::{Given, moments, too_wide, unless_too_wide};
 use trial_support::tally::Tally;
 use trial_support::{cases, random};
 
@@ -14,7 +14,7 @@ fn mean(given: Given, cell: Cell) -> i64 {
     moments::mean(n, s)
 }
 
-// One picture smoothed, "the case g = f with shift (0, 0)", and compared at 64 cells at most. The output is an array as long as those of the pictures: the trials
+// One picture smoothed, "the case g = f with shift (0, 0)", and compared at 64 cells at most; a call that is refused leaves the zeros. The output is an array as long as those of the pictures: the trials
 // have no heap.
 fn smoothed(case: Case, f: &[i16], t: Tally) -> Tally {
     let c = Case {
@@ -25,11 +25,16 @@ fn smoothed(case: Case, f: &[i16], t: Tally) -> Tally {
     let cells = c.cells().min(CELLS);
     let mut out = [0i16; CELLS];
     let answer = smooth(c.frame(), f, c.window(), &mut out[..cells]);
-    let begun = t.with(answer.err(), None);
+    let refusal = too_wide(c);
+    let begun = t.with(answer.err(), refusal);
     (0..cells.min(64)).fold(begun, |t, k| {
         let cell = c.scattered(k);
         let ours: i16 = random::read(&out, c.place(cell));
-        t.with(i64::from(ours), mean(given, cell))
+        let wanted = match refusal {
+            Some(_) => 0,
+            None => mean(given, cell),
+        };
+        t.with(i64::from(ours), wanted)
     })
 }
 
@@ -50,7 +55,7 @@ fn searched(given: Given, t: Tally) -> Tally {
     let answer = steady(c.frame(), given.f, given.g, c.window(), c.shift);
     let ours = answer.map(|found| found.map(|cell| c.place(cell)));
     let first = (0..c.cells()).find(|k| is_steady(given, c.cell(*k)));
-    t.with(ours, Ok(first))
+    t.with(ours, unless_too_wide(c, first))
 }
 
 // The two tallies of this group.
@@ -69,8 +74,11 @@ fn of_case(case: Case, t: Tallies) -> Tallies {
     }
 }
 
-pub fn run(rt: &impl Print) -> io::Result<()> {
-    let t = (0..72).fold(Tallies::default(), |t, k| of_case(cases::kth(k), t));
-    println!(rt; "smoothed cells: {}", t.means)?;
-    println!(rt; "steady searches: {}", t.steady)
+pub fn run(rt: &impl Print, columns_wrap: bool) -> io::Result<()> {
+    let border = cases::border(columns_wrap);
+    let t = (0..72).fold(Tallies::default(), |t, k| {
+        of_case(cases::kth(k, columns_wrap), t)
+    });
+    println!(rt; "smoothed cells{border}: {}", t.means)?;
+    println!(rt; "steady searches{border}: {}", t.steady)
 }

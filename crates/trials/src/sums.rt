@@ -3,8 +3,8 @@ use local_statistics::{build, direct_sum, read};
 use std::io;
 use trial_support::cases::Case;
 use trial_support::random::CELLS;
-use trial_support::rival::Given;
 use trial_support::rival::corners::Table;
+use trial_support::rival::{Given, unless_too_wide};
 use trial_support::tally::Tally;
 use trial_support::{cases, random};
 
@@ -21,17 +21,18 @@ struct Tallies {
 fn at_cell(given: Given, built: Table, foreign: Table, k: usize, t: Tallies) -> Tallies {
     let c = given.case;
     let cell = c.scattered(k);
-    let sum = given.sum(cell);
+    let sum = unless_too_wide(c, given.sum(cell));
+    let foreign_sum = unless_too_wide(c, foreign.reading(cell));
     let entry: i64 = random::read(built.entries, c.place(cell));
     Tallies {
-        direct: t.direct.with(direct_sum(&given.inputs(), cell), Ok(sum)),
+        direct: t.direct.with(direct_sum(&given.inputs(), cell), sum),
         entries: t.entries.with(entry, given.entry(cell)),
         built: t
             .built
-            .with(read(c.frame(), built.entries, c.window(), cell), Ok(sum)),
+            .with(read(c.frame(), built.entries, c.window(), cell), sum),
         foreign: t.foreign.with(
             read(c.frame(), foreign.entries, c.window(), cell),
-            Ok(foreign.reading(cell)),
+            foreign_sum,
         ),
     }
 }
@@ -60,10 +61,13 @@ fn of_case(case: Case, tallies: Tallies) -> Tallies {
     (0..cells.min(24)).fold(begun, |t, k| at_cell(given, built, foreign, k, t))
 }
 
-pub fn run(rt: &impl Print) -> io::Result<()> {
-    let t = (0..72).fold(Tallies::default(), |t, k| of_case(cases::kth(k), t));
-    println!(rt; "direct sums: {}", t.direct)?;
-    println!(rt; "table entries: {}", t.entries)?;
-    println!(rt; "readings of built tables: {}", t.built)?;
-    println!(rt; "readings of foreign tables: {}", t.foreign)
+pub fn run(rt: &impl Print, columns_wrap: bool) -> io::Result<()> {
+    let border = cases::border(columns_wrap);
+    let t = (0..72).fold(Tallies::default(), |t, k| {
+        of_case(cases::kth(k, columns_wrap), t)
+    });
+    println!(rt; "direct sums{border}: {}", t.direct)?;
+    println!(rt; "table entries{border}: {}", t.entries)?;
+    println!(rt; "readings of built tables{border}: {}", t.built)?;
+    println!(rt; "readings of foreign tables{border}: {}", t.foreign)
 }

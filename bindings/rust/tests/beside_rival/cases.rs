@@ -2,13 +2,14 @@
 
 use crate::random::Random;
 use crate::rival::Answer;
-use local_statistics::{Cell, Pictures, Plane, Refusal, Shift, Size, Window};
+use local_statistics::{Border, Cell, Pictures, Plane, Refusal, Shift, Size, Window};
 use std::fmt::Debug;
 
 /// The inputs of a call.
 #[derive(Clone, Debug)]
 pub struct Case {
     pub size: Size,
+    pub border: Border,
     pub f: Vec<i16>,
     pub g: Vec<i16>,
     pub window: Window,
@@ -24,11 +25,13 @@ impl Case {
         let cells = size.rows * size.columns;
         let f = random.picture(cells);
         let g = if random.once_in(3) { f.clone() } else { random.picture(cells) };
+        let border = random.pick(&[Border::Clipped, Border::Wrapped]);
         Case {
             size,
+            border,
             f,
             g,
-            window: window(random),
+            window: if border == Border::Wrapped { fitting_window(random, size.columns as i64) } else { window(random) },
             shift: shift(random, size),
             plane: Plane(random.below(6) as u32),
             cell: Cell { row: random.below(size.rows), column: random.below(size.columns) },
@@ -62,6 +65,9 @@ impl Case {
         if random.once_in(8) {
             self.window = illegal_window(random);
         }
+        if self.border == Border::Wrapped && random.once_in(8) {
+            self.window = with_reach(random, ((columns as i64 + 1) / 2).min(127));
+        }
         if random.once_in(8) {
             self.shift.down = random.pick(&[-256, 256, i32::MIN, i32::MAX]);
         }
@@ -80,7 +86,7 @@ impl Case {
     }
 
     pub fn pictures(&self) -> Pictures<'_> {
-        Pictures { size: self.size, f: &self.f, g: &self.g, shift: self.shift }
+        Pictures { size: self.size, border: self.border, f: &self.f, g: &self.g, shift: self.shift }
     }
 
     /// The length of an area that has one number a cell of f; once in eight times another.
@@ -117,22 +123,42 @@ pub fn window(random: &mut Random) -> Window {
     }
 }
 
+/// A legal window whose widest row goes so far to both sides.
+fn with_reach(random: &mut Random, reach: i64) -> Window {
+    let most = random.pick(&[0, 1, 3, 8, 127]);
+    let height = random.within(0..=most) as i32;
+    let reach = reach as i32;
+    match random.below(3) {
+        0 => Window::rectangle(height, reach),
+        1 => Window::diamond(reach),
+        _ => Window::hexagon(reach - height.min(reach), height.min(reach)),
+    }
+}
+
+/// A legal window whose widest row fits so many columns, which it often fills.
+fn fitting_window(random: &mut Random, columns: i64) -> Window {
+    let most = ((columns - 1) / 2).min(127);
+    let reach = if random.once_in(3) { most } else { random.within(0..=most) };
+    with_reach(random, reach)
+}
+
 fn illegal_window(random: &mut Random) -> Window {
     let shape = random.pick(&[0, 1, 2, 3, 4, u32::MAX]);
     let (first, second) = random.pick(&[(128, 0), (0, 128), (-1, 0), (0, -1), (1, 127), (127, 1), (i32::MAX, i32::MAX), (i32::MIN, 0)]);
     Window { shape, first, second }
 }
 
-/// A legal shift: none, a small one, one as large as the picture, or a limit.
+/// A legal shift: none, a small one, one as large as the picture, one that goes far beyond its columns, or a limit.
 fn shift(random: &mut Random, size: Size) -> Shift {
     let (rows, columns) = (size.rows as i64, size.columns as i64);
-    match random.below(5) {
+    match random.below(6) {
         0 => Shift::default(),
         1 | 2 => Shift { down: random.within(-2..=2) as i32, right: random.within(-2..=2) as i32 },
         3 => Shift {
             down: random.within(-rows.min(255)..=rows.min(255)) as i32,
             right: random.within(-columns.min(1023)..=columns.min(1023)) as i32,
         },
+        4 => Shift { down: random.within(-2..=2) as i32, right: random.within(-1023..=1023) as i32 },
         _ => Shift { down: random.pick(&[-255, 0, 255]), right: random.pick(&[-1023, 0, 1023]) },
     }
 }
@@ -165,7 +191,7 @@ impl<T: Copy + Debug + PartialEq> Guarded<T> {
 #[derive(Default)]
 pub struct Tally {
     answered: usize,
-    refused: [usize; 10],
+    refused: [usize; 12],
 }
 
 impl Tally {

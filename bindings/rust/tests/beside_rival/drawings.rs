@@ -14,11 +14,11 @@ fn smoothing() {
         let length = case.area_length(&mut random);
         let mut expected = random.picture(length);
         let mut out = Guarded::new(&expected, 77);
-        let library = smooth(case.size, &case.f, case.window, out.area());
-        tally.compare(library, rival::smooth(case.size, &case.f, case.window, &mut expected), &case);
+        let library = smooth(case.size, case.border, &case.f, case.window, out.area());
+        tally.compare(library, rival::smooth(case.size, case.border, &case.f, case.window, &mut expected), &case);
         out.expect(&expected, 77);
     }
-    tally.expect(3_000, &[1, 2, 3, 8]);
+    tally.expect(3_000, &[1, 2, 3, 8, 11]);
 }
 
 #[test]
@@ -37,7 +37,7 @@ fn steady_cells() {
         }
         tally.compare(library, rival::steady(case.pictures(), case.window), &case);
     }
-    tally.expect(3_000, &[1, 2, 3, 4]);
+    tally.expect(3_000, &[1, 2, 3, 4, 11]);
     assert!(first > 100 && later > 100 && nowhere > 100, "{first} at the first cell, {later} later, {nowhere} nowhere");
 }
 

@@ -1,7 +1,7 @@
-//! The rival: document 01 in plain loops, which shares nothing with the library but the types of the calls. Each function answers what the
+//! The rival: document 01, and change 1 of document 02, in plain loops, which shares nothing with the library but the types of the calls. Each function answers what the
 //! call of that name answers, with the number of a refusal, and leaves in the areas what the call leaves.
 
-use local_statistics::{Cell, Pictures, Plane, Size, Sums, Window};
+use local_statistics::{Border, Cell, Pictures, Plane, Size, Sums, Window};
 
 pub type Answer<T> = Result<T, u32>;
 
@@ -9,10 +9,14 @@ pub type Answer<T> = Result<T, u32>;
 
 type Condition = (u32, bool);
 
-/// "Checks run in number order": of the conditions that hold, the lowest number is the answer.
+/// "Checks run in number order", and 11 is "checked after 5".
+const ORDER: [u32; 9] = [1, 2, 3, 4, 5, 11, 6, 7, 8];
+
+/// Of the conditions that hold, the first in this order is the answer; 9 and 10 meet no other.
 fn refuse(conditions: &[Condition]) -> Answer<()> {
-    match conditions.iter().filter(|(_, holds)| *holds).min() {
-        Some(&(number, _)) => Err(number),
+    let held = conditions.iter().filter(|(_, holds)| *holds).map(|&(number, _)| number);
+    match held.min_by_key(|number| ORDER.iter().position(|ordered| ordered == number)) {
+        Some(number) => Err(number),
         None => Ok(()),
     }
 }
@@ -56,6 +60,12 @@ fn plane_above(plane: Plane) -> Condition {
     (5, plane.0 > 5)
 }
 
+/// "widest row above columns with the switch on"
+fn row_above(size: Size, border: Border, window: Window) -> Condition {
+    let widest = (-127..=127).filter(|&q| holds(window, 0, q)).count();
+    (11, border == Border::Wrapped && widest > size.columns)
+}
+
 fn cell_outside(size: Size, cell: Cell) -> Condition {
     (6, cell.row >= size.rows || cell.column >= size.columns)
 }
@@ -80,16 +90,32 @@ fn holds(window: Window, p: i64, q: i64) -> bool {
     }
 }
 
-fn inside(size: Size, m: i64, n: i64) -> bool {
-    0 <= m && m < size.rows as i64 && 0 <= n && n < size.columns as i64
+/// The widest q of a row of a legal window, where it has that row.
+fn reach(window: Window, p: i64) -> Option<i64> {
+    (0..).take_while(|&q| holds(window, p, q)).last()
 }
 
-fn plane_value(pictures: Pictures, plane: Plane, m: i64, n: i64) -> i64 {
-    let Pictures { size, f, g, shift } = pictures;
-    let (other_m, other_n) = (m + i64::from(shift.down), n + i64::from(shift.right));
-    if !inside(size, m, n) || !inside(size, other_m, other_n) {
-        return 0;
+fn row_at(size: Size, m: i64) -> Option<i64> {
+    (0 <= m && m < size.rows as i64).then_some(m)
+}
+
+/// "A looping pad joins its last column to its first"
+fn column_at(size: Size, border: Border, n: i64) -> Option<i64> {
+    let columns = size.columns as i64;
+    match border {
+        Border::Clipped => (0 <= n && n < columns).then_some(n),
+        Border::Wrapped => Some(n.rem_euclid(columns)),
     }
+}
+
+/// The plane at a row, which may be outside, and a column of the picture.
+fn plane_value(pictures: Pictures, plane: Plane, m: i64, n: i64) -> i64 {
+    let Pictures { size, border, f, g, shift } = pictures;
+    let other_row = row_at(size, m).and_then(|m| row_at(size, m + i64::from(shift.down)));
+    let other_column = column_at(size, border, n + i64::from(shift.right));
+    let (Some(other_m), Some(other_n)) = (other_row, other_column) else {
+        return 0;
+    };
     let level = |picture: &[i16], m: i64, n: i64| i64::from(picture[m as usize * size.columns + n as usize]);
     let (x, y) = (level(f, m, n), level(g, other_m, other_n));
     match plane.0 {
@@ -104,20 +130,25 @@ fn plane_value(pictures: Pictures, plane: Plane, m: i64, n: i64) -> i64 {
 
 fn window_sum(pictures: Pictures, window: Window, plane: Plane, cell: Cell) -> i64 {
     let (i, j) = (cell.row as i64, cell.column as i64);
-    let (rows, columns) = (pictures.size.rows as i64, pictures.size.columns as i64);
+    let rows = pictures.size.rows as i64;
     let mut sum = 0;
     for m in (i - 127).max(0)..=(i + 127).min(rows - 1) {
-        for n in (j - 127).max(0)..=(j + 127).min(columns - 1) {
-            if holds(window, m - i, n - j) {
-                sum += plane_value(pictures, plane, m, n);
-            }
+        for n in columns_near(pictures.size, pictures.border, j, reach(window, m - i)) {
+            sum += plane_value(pictures, plane, m, n);
         }
     }
     sum
 }
 
+/// The columns j-q to j+q that the picture has, or round the edge; none where there is no q.
+fn columns_near(size: Size, border: Border, j: i64, q: Option<i64>) -> impl Iterator<Item = i64> {
+    let q = q.unwrap_or(-1);
+    (j - q..=j + q).filter_map(move |n| column_at(size, border, n))
+}
+
 pub fn direct_sum(pictures: Pictures, window: Window, plane: Plane, cell: Cell) -> Answer<i64> {
-    refuse_pictures(pictures, &[window_illegal(window), plane_above(plane), cell_outside(pictures.size, cell)])?;
+    let Pictures { size, border, .. } = pictures;
+    refuse_pictures(pictures, &[window_illegal(window), plane_above(plane), row_above(size, border, window), cell_outside(size, cell)])?;
     Ok(window_sum(pictures, window, plane, cell))
 }
 
@@ -152,18 +183,29 @@ fn rectangle_of(size: Size, table: &[i64], (top, bottom): (i64, i64), (left, rig
         .wrapping_add(corner(size, table, top - 1, left - 1))
 }
 
-pub fn read(size: Size, table: &[i64], window: Window, cell: Cell) -> Answer<i64> {
-    refuse(&[size_beyond(size), window_illegal(window), cell_outside(size, cell), area_length(table.len(), cells(size))])?;
+/// Some rows, and columns j-q to j+q: where they wrap, column by column.
+fn rectangle_near(size: Size, border: Border, table: &[i64], rows: (i64, i64), j: i64, q: i64) -> i64 {
+    match border {
+        Border::Clipped => rectangle_of(size, table, rows, (j - q, j + q)),
+        Border::Wrapped => {
+            columns_near(size, border, j, Some(q)).fold(0, |sum: i64, n| sum.wrapping_add(rectangle_of(size, table, rows, (n, n))))
+        }
+    }
+}
+
+pub fn read(size: Size, border: Border, table: &[i64], window: Window, cell: Cell) -> Answer<i64> {
+    let of_window = [window_illegal(window), row_above(size, border, window)];
+    let others = [size_beyond(size), cell_outside(size, cell), area_length(table.len(), cells(size))];
+    refuse(&[&of_window[..], &others].concat())?;
     let (i, j) = (cell.row as i64, cell.column as i64);
     let (first, second) = (i64::from(window.first), i64::from(window.second));
     if window.shape == 1 {
-        return Ok(rectangle_of(size, table, (i - first, i + first), (j - second, j + second)));
+        return Ok(rectangle_near(size, border, table, (i - first, i + first), j, second));
     }
     let mut sum = 0i64;
     for p in -127..=127 {
-        // the widest q of this row, where it has one
-        if let Some(q) = (0..).take_while(|&q| holds(window, p, q)).last() {
-            sum = sum.wrapping_add(rectangle_of(size, table, (i + p, i + p), (j - q, j + q)));
+        if let Some(q) = reach(window, p) {
+            sum = sum.wrapping_add(rectangle_near(size, border, table, (i + p, i + p), j, q));
         }
     }
     Ok(sum)
@@ -182,7 +224,8 @@ fn first_work(pictures: Pictures, window: Window, plane: Plane, j: i64) -> i64 {
 /// What column j of the work area gains from row i to row i + 1: what enters less what leaves.
 fn change(pictures: Pictures, window: Window, plane: Plane, i: i64, j: i64) -> i64 {
     let (first, second) = (i64::from(window.first), i64::from(window.second));
-    let value = |m, n| plane_value(pictures, plane, m, n);
+    let Pictures { size, border, .. } = pictures;
+    let value = |m, n| column_at(size, border, n).map_or(0, |n| plane_value(pictures, plane, m, n));
     if window.shape == 1 {
         return value(i + 1 + first, j) - value(i - first, j);
     }
@@ -196,12 +239,11 @@ fn change(pictures: Pictures, window: Window, plane: Plane, i: i64, j: i64) -> i
 }
 
 /// The output row of a work area.
-fn output(size: Size, window: Window, work: &[i64], j: i64) -> i64 {
+fn output(pictures: Pictures, window: Window, work: &[i64], j: i64) -> i64 {
     if window.shape != 1 {
         return work[j as usize];
     }
-    let b = i64::from(window.second);
-    let columns = (j - b).max(0)..=(j + b).min(size.columns as i64 - 1);
+    let columns = columns_near(pictures.size, pictures.border, j, Some(window.second.into()));
     columns.fold(0, |sum, n| sum.wrapping_add(work[n as usize]))
 }
 
@@ -218,6 +260,7 @@ pub fn rows(
     let conditions = [
         window_illegal(window),
         plane_above(plane),
+        row_above(size, pictures.border, window),
         request_above(size, *position, request),
         area_length(work.len(), size.columns as u128),
         area_length(out.len(), request as u128 * size.columns as u128),
@@ -232,7 +275,7 @@ pub fn rows(
             };
         }
         for j in 0..size.columns {
-            out[granted * size.columns + j] = output(size, window, work, j as i64);
+            out[granted * size.columns + j] = output(pictures, window, work, j as i64);
         }
         *position += 1;
     }
@@ -352,17 +395,19 @@ fn six_sums(pictures: Pictures, window: Window, cell: Cell) -> Sums {
     Sums { n: sum(0), s: sum(1), t: sum(2), a: sum(3), b: sum(4), p: sum(5) }
 }
 
-pub fn mean_at(size: Size, f: &[i16], window: Window, cell: Cell) -> i16 {
-    let one = Pictures::one(size, f);
+pub fn mean_at(size: Size, border: Border, f: &[i16], window: Window, cell: Cell) -> i16 {
+    let one = Pictures { border, ..Pictures::one(size, f) };
     let (n, s) = (window_sum(one, window, Plane(0), cell), window_sum(one, window, Plane(1), cell));
     nearest(s.into(), n.into()) as i16
 }
 
-pub fn smooth(size: Size, f: &[i16], window: Window, out: &mut [i16]) -> Answer<()> {
-    refuse(&[size_beyond(size), picture_length(size, f), window_illegal(window), area_length(out.len(), cells(size))])?;
+pub fn smooth(size: Size, border: Border, f: &[i16], window: Window, out: &mut [i16]) -> Answer<()> {
+    let of_window = [window_illegal(window), row_above(size, border, window)];
+    let others = [size_beyond(size), picture_length(size, f), area_length(out.len(), cells(size))];
+    refuse(&[&of_window[..], &others].concat())?;
     for row in 0..size.rows {
         for column in 0..size.columns {
-            out[row * size.columns + column] = mean_at(size, f, window, Cell { row, column });
+            out[row * size.columns + column] = mean_at(size, border, f, window, Cell { row, column });
         }
     }
     Ok(())
@@ -370,7 +415,7 @@ pub fn smooth(size: Size, f: &[i16], window: Window, out: &mut [i16]) -> Answer<
 
 pub fn steady(pictures: Pictures, window: Window) -> Answer<Option<Cell>> {
     let size = pictures.size;
-    refuse_pictures(pictures, &[window_illegal(window)])?;
+    refuse_pictures(pictures, &[window_illegal(window), row_above(size, pictures.border, window)])?;
     for row in 0..size.rows {
         for column in 0..size.columns {
             let cell = Cell { row, column };
@@ -428,7 +473,7 @@ pub fn panel(text: &[u8]) -> String {
     };
     let mut out = String::new();
     for row in 0..size.rows {
-        let means = (0..size.columns).map(|column| mean_at(size, &levels, window, Cell { row, column }).to_string());
+        let means = (0..size.columns).map(|column| mean_at(size, Border::Clipped, &levels, window, Cell { row, column }).to_string());
         out += &means.collect::<Vec<_>>().join(" ");
         out += "\n";
     }

@@ -15,7 +15,7 @@ fn direct_sums() {
         let rival = rival::direct_sum(case.pictures(), case.window, case.plane, case.cell);
         tally.compare(library, rival, &case);
     }
-    tally.expect(50_000, &[1, 2, 3, 4, 5, 6]);
+    tally.expect(50_000, &[1, 2, 3, 4, 5, 6, 11]);
 }
 
 #[test]
@@ -41,7 +41,7 @@ fn built_tables_read() {
         let case = Case::legal(&mut random, 14, 14);
         let mut table = vec![0; case.f.len()];
         assert_eq!(build(case.pictures(), case.plane, &mut table), Ok(()));
-        let sum = read(case.size, &table, case.window, case.cell);
+        let sum = read(case.size, case.border, &table, case.window, case.cell);
         assert_eq!(sum, direct_sum(case.pictures(), case.window, case.plane, case.cell), "given {case:?}");
         assert_eq!(sum.ok(), rival::direct_sum(case.pictures(), case.window, case.plane, case.cell).ok());
     }
@@ -55,8 +55,8 @@ fn foreign_tables_read() {
         let case = Case::any(&mut random, 14, 14);
         let length = case.area_length(&mut random);
         let table = random.numbers(length);
-        let library = read(case.size, &table, case.window, case.cell);
-        tally.compare(library, rival::read(case.size, &table, case.window, case.cell), &case);
+        let library = read(case.size, case.border, &table, case.window, case.cell);
+        tally.compare(library, rival::read(case.size, case.border, &table, case.window, case.cell), &case);
     }
-    tally.expect(50_000, &[1, 3, 6, 8]);
+    tally.expect(50_000, &[1, 3, 6, 8, 11]);
 }

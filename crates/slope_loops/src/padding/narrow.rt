@@ -9,7 +9,7 @@ ghost use Rattle.spec_picture.specs.Checked.{checked_source};
 ghost use Rattle.std.proofs.Common.{arith};
 ghost use Rattle.spec_picture.proofs.Planes.{plane-level};
 
-use crate::padding::{ABOVE, MARGIN, PlaneValue, ROW_LENGTH};
+use crate::padding::{ABOVE, PlaneValue};
 use plane_rows::level_rows::{copied_row, fill};
 use spec_picture::CheckedSource;
 
@@ -28,14 +28,11 @@ impl PlaneValue for i16 {
         0
     }
 
-    #[tactic(auto, unfolding(spec_picture::specs::Frame::frame_legal))]
-    fn load(source: &CheckedSource<'_>, y: usize, buf: &mut [i16; ROW_LENGTH]) {
-        let left = MARGIN;
-        let right = left + source.frame.columns;
+    fn own_columns(source: &CheckedSource<'_>, y: usize, out: &mut [i16]) {
         if y < ABOVE {
-            fill(&mut buf[left..right], 0);
+            fill(out, 0);
             return;
         }
-        copied_row(source, y - ABOVE, &mut buf[left..right]);
+        copied_row(source, y - ABOVE, out);
     }
 }

@@ -4,7 +4,7 @@ ghost use Rattle.std.specs.Prelude.{◌^◌, ⊤};
 ghost use Rattle.std.proofs.Common.{arith};
 ghost use Rattle.spec_picture.proofs.Planes.{plane-bound};
 
-use crate::padding::{ABOVE, MARGIN, PlaneValue, ROW_LENGTH};
+use crate::padding::{ABOVE, PlaneValue};
 use plane_rows::{plane_values, planes};
 use spec_picture::CheckedSource;
 
@@ -23,14 +23,11 @@ impl PlaneValue for i64 {
         0
     }
 
-    #[tactic(auto, unfolding(spec_picture::specs::Frame::frame_legal))]
-    fn load(source: &CheckedSource<'_>, y: usize, buf: &mut [i64; ROW_LENGTH]) {
-        let left = MARGIN;
-        let right = left + source.frame.columns;
+    fn own_columns(source: &CheckedSource<'_>, y: usize, out: &mut [i64]) {
         if y < ABOVE {
-            plane_values::fill(&mut buf[left..right], 0);
+            plane_values::fill(out, 0);
             return;
         }
-        planes::plane_row(source, y - ABOVE, &mut buf[left..right]);
+        planes::plane_row(source, y - ABOVE, out);
     }
 }

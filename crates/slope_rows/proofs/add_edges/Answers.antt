@@ -20,10 +20,10 @@ returns-then-k-eq0 g c =
     let x = checked_source c.args.slanted.now.inputs.source in
     let p = c.requires.1 in
     let limits = row-limits c.args.slanted.now _ p.inside in
-    let tipped = work-tipped x.frame (plane_at x) c.args.slanted.now.width c.args.slanted.now.height c.args.here.row c.args.here.moved p.turn p.slopes (plane-past x) (plane-beside x) in
+    let tipped = work-tipped x.frame (plane_at x) c.args.slanted.now.beside c.args.slanted.now.width c.args.slanted.now.height c.args.here.row c.args.here.moved p.turn p.slopes (plane-past x) (plane-beside x) in
     let tip = c.if-k-eq0.true in (
-      tipped _ _ _ _ _ (omega (arith, limits)) tip p.entering p.leaving p.room_work c.finish_tips.ensures.0,
-      tipped _ _ _ _ _ (omega (arith, limits)) tip p.entering p.leaving p.room_work c.finish_tips.ensures.1,
+      tipped _ _ _ _ _ _ (omega (arith, limits)) tip p.entering p.leaving p.room_work c.finish_tips.ensures.0,
+      tipped _ _ _ _ _ _ (omega (arith, limits)) tip p.entering p.leaving p.room_work c.finish_tips.ensures.1,
     )
 
 pub add_flat_edge-requires : goal.add_flat_edge-requires
@@ -39,7 +39,7 @@ pub returns : goal.returns
 returns g c =
     let x = checked_source c.args.slanted.now.inputs.source in
     let p = c.requires.1 in
-    let edged = work-edged x.frame (plane_at x) c.args.slanted.now.width c.args.slanted.now.height c.args.here.row c.args.here.moved p.turn p.slopes in
+    let edged = work-edged x.frame (plane_at x) c.args.slanted.now.beside c.args.slanted.now.width c.args.slanted.now.height c.args.here.row c.args.here.moved p.turn p.slopes in
     let in-work = c.add_flat_edge.auto.work ∙ p.room_work in (
       edged _ _ _ _ in-work c.add_flat_edge.ensures c.finish.ensures.0,
       edged _ _ _ _ in-work c.add_flat_edge.ensures c.finish.ensures.1,

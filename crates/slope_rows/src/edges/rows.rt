@@ -7,6 +7,7 @@ ghost use Rattle.slope_rows.specs.Edges.{plane_in, AfterRequires, TopRequires, T
 
 use crate::kept_slopes::SlantedInputs;
 use crate::next_row;
+use crate::padded_rows::load;
 use crate::places::CallRow;
 use crate::slope_starts::{first_row, start_slopes};
 use direct_sum::window_sums;
@@ -103,7 +104,7 @@ pub fn rows_from<S: Slope>(
     let mut rises = [S::zero(); ROW_LENGTH];
     let mut falls = [S::zero(); ROW_LENGTH];
     start_slopes(slanted, i, &mut a, &mut b, &mut rises, &mut falls);
-    S::Value::load(&slanted.inputs.source, ABOVE + i - slanted.height, &mut c);
+    load(slanted, ABOVE + i - slanted.height, &mut c);
     let begin = top_row(fresh, slanted, &rises, &falls, work, out);
     let rows = RowsAfter { row: i, count: n };
     rows_after(

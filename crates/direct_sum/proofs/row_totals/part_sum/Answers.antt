@@ -20,10 +20,10 @@ returns-then-has_row c =
     let x = checked_source v.source in
     let plane = plane-level x One (rw c.in-Level-One.field-0-is at c.in-Level-One.ensures.values) c.args.row in
     let n = c.args.end - c.args.start in
-    let few : n ≤ 1024 = omega (arith, a.upto, v.counting.by_column.within, (limits v.source).few_columns) in
+    let few : n ≤ 1024 = omega (arith, a.upto, a.counting.within, (limits v.source).few_columns) in
     to_z_pos w64 (omega (arith, few)) ∙ sym (wrap-small (pos n) (omega (arith, few)))
     ∙ ap wrap (count n _
-    (λ k k<. plane (c.args.start + k) ∙ plane-0 x v.rows v.columns v.counting c.args.row (c.args.start + k) true (sym c.if-has_row.true ∙ c.has_row.ensures) (omega (arith, a.from)) (omega (arith, a.upto))))
+    (λ k k<. plane (c.args.start + k) ∙ plane-0 x v.rows v.counting.by_row c.args.stretch a.counting c.args.row (c.args.start + k) true (sym c.if-has_row.true ∙ c.has_row.ensures) (omega (arith, a.from)) (omega (arith, a.upto))))
 
 pub returns-else-has_row : goal.returns-else-has_row
 returns-else-has_row c =
@@ -32,7 +32,7 @@ returns-else-has_row c =
     let x = checked_source v.source in
     let plane = plane-level x One (rw c.in-Level-One.field-0-is at c.in-Level-One.ensures.values) c.args.row in
     sym (ap wrap (sum-none (c.args.end - c.args.start) _
-    (λ k k<. plane (c.args.start + k) ∙ plane-0 x v.rows v.columns v.counting c.args.row (c.args.start + k) false (sym c.if-has_row.false ∙ c.has_row.ensures) (omega (arith, a.from)) (omega (arith, a.upto))))
+    (λ k k<. plane (c.args.start + k) ∙ plane-0 x v.rows v.counting.by_row c.args.stretch a.counting c.args.row (c.args.start + k) false (sym c.if-has_row.false ∙ c.has_row.ensures) (omega (arith, a.from)) (omega (arith, a.upto))))
     ∙ wrap-small (pos 0) (omega arith))
 
 pub returns-in-Level : goal.returns-in-Level

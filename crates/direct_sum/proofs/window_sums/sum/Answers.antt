@@ -9,12 +9,24 @@ use Rattle.numbers.specs.Wrap.{wrap}
 use Rattle.numbers.proofs.Running.{range_none, range-more, wrap-wrap}
 use Rattle.spec_picture.specs.Checked.{checked_inputs}
 use Rattle.spec_picture.proofs.Found.{checked}
+use Rattle.spec_picture.proofs.Windows.{reach_width}
 use Rattle.spec_picture.specs.Window.{shape_of, reach}
+use Rattle.direct_sum.proofs.NearRows.{near-requires, stretch-nearer}
 use Rattle.direct_sum.proofs.WindowRows.{window_row, row-total, rows-done}
 use Rattle.direct_sum.proofs.window_sums.sum.Goals as goal
 
 pub loop-m-init : goal.loop-m-init
 loop-m-init c = range_none (window_row (checked_inputs c.args.inputs.now) c.args.cell.row c.args.cell.column) _
+
+pub near_sum-requires : goal.near_sum-requires
+near_sum-requires c =
+    let inputs = c.args.inputs.now in
+    let stretch = rw c.view_of-view.ensures at c.in-Some.ensures in
+    rw c.view_of-view.ensures
+    (record {
+      near = near-requires inputs c.args.cell.column c.distance.result _ c.requires.column c.reach-reach.ensures;
+      stretch = stretch-nearer _ _ _ _ _ _ _ stretch (omega (arith, c.reach-reach.ensures, reach_width (shape_of (checked_inputs inputs).window) c.distance.result));
+    })
 
 pub loop-m-preserved : goal.loop-m-preserved
 loop-m-preserved c =
@@ -22,13 +34,13 @@ loop-m-preserved c =
     let x = checked_inputs c.args.inputs.now in
     let cell = c.args.cell in
     let window = window_row x cell.row cell.column in
-    let r : SFits w64 c.row_sum.result = record { sfits = c.row_sum.type_inv } in
+    let r : SFits w64 c.near_sum.result = record { sfits = c.near_sum.type_inv } in
     let s : SFits w64 c.wrapping_add-s.result = record { sfits = c.wrapping_add-s.type_inv } in
-    let row : c.row_sum.result ≡ wrap (window l.m) =
-    rw c.view_of-view.ensures at c.row_sum.ensures
-    ∙ ap wrap (row-total x cell.row cell.column l.m _ _ _ c.requires.column (c.reach-reach.ensures ∙ ap (reach (shape_of x.window)) c.distance.ensures) c.low-start.ensures c.high-end.ensures) in
+    let row : c.near_sum.result ≡ wrap (window l.m) =
+    rw c.view_of-view.ensures at c.near_sum.ensures
+    ∙ ap wrap (row-total x cell.row cell.column l.m _ (c.reach-reach.ensures ∙ ap (reach (shape_of x.window)) c.distance.ensures)) in
     to_z-of_z {w = w64} s ∙ simp (to_z-of_z, r) at c.wrapping_add-s.ensures
-    ∙ range-more window c.low-m.result l.m (to_z w64 l.s-bits) c.row_sum.result (omega arith) l.invariant (ap wrap row ∙ wrap-wrap (window l.m))
+    ∙ range-more window c.low-m.result l.m (to_z w64 l.s-bits) c.near_sum.result (omega arith) l.invariant (ap wrap row ∙ wrap-wrap (window l.m))
 
 pub returns : goal.returns
 returns c =

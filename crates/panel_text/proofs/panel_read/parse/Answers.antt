@@ -22,7 +22,7 @@ returns-in_err-window c =
     rw (p.1, p.2) (no-window _ c.if-text-gt65536.false _ _ c.new-numbers.ensures _ c.in_ok-frame.ensures _ _ c.in_err-window.ensures)
 
 pub overflow_mul-frame : goal.overflow_mul-frame
-overflow_mul-frame c = omega (arith, cells-few _ c.in_ok-frame.ensures.legal)
+overflow_mul-frame c = omega (arith, cells-few _ c.in_ok-frame.ensures.legal.0)
 
 pub slice_bounds-read_levels-end : goal.slice_bounds-read_levels-end
 slice_bounds-read_levels-end c = cells-room _ _ (picture-required c.in_ok-frame.ensures c.requires)

@@ -11,34 +11,34 @@ pub returns-then-not-has_row : goal.returns-then-not-has_row
 returns-then-not-has_row c =
     let v = c.args.view.now in
     let a = c.requires in
-    let few : c.args.end - c.args.start ≤ 1024 = omega (arith, a.upto, v.counting.by_column.within, (limits v.source).few_columns) in
+    let few : c.args.end - c.args.start ≤ 1024 = omega (arith, a.upto, a.counting.within, (limits v.source).few_columns) in
     cells-of _ _ _ _ _ (c.args.end - c.args.start) (omega (arith, a.ordered))
-    (zeros-there (on_factor (checked_source v.source) c.args.factor) v.rows v.columns v.counting _ _ _ a few (none-among v.rows.first v.rows.end c.args.row _ c.has_row.ensures c.if-not-has_row.true))
+    (zeros-there (on_factor (checked_source v.source) c.args.factor) v.rows v.counting.by_row _ _ _ _ a few (none-among v.rows.first v.rows.end c.args.row _ c.has_row.ensures c.if-not-has_row.true))
 
 pub returns-in-One : goal.returns-in-One
 returns-in-One c =
     let v = c.args.view.now in
     let a = c.requires in
     let row = some-among v.rows.first v.rows.end c.args.row _ c.has_row.ensures c.if-not-has_row.false in
-    let few : c.args.end - c.args.start ≤ 1024 = omega (arith, a.upto, v.counting.by_column.within, (limits v.source).few_columns) in
-    cells-of _ _ _ _ _ (c.args.end - c.args.start) (omega (arith, a.ordered)) (rw c.in-One.is (ones-there (checked_source v.source) v.rows v.columns v.counting _ _ _ a row.0 row.1 few))
+    let few : c.args.end - c.args.start ≤ 1024 = omega (arith, a.upto, a.counting.within, (limits v.source).few_columns) in
+    cells-of _ _ _ _ _ (c.args.end - c.args.start) (omega (arith, a.ordered)) (rw c.in-One.is (ones-there (checked_source v.source) v.rows v.counting.by_row _ _ _ _ a row.0 row.1 few))
 
 pub returns-in-F : goal.returns-in-F
 returns-in-F c =
     let v = c.args.view.now in
     let a = c.requires in
     let row = some-among v.rows.first v.rows.end c.args.row _ c.has_row.ensures c.if-not-has_row.false in
-    cells-of _ _ _ _ _ (c.args.end - c.args.start) (omega (arith, a.ordered)) (rw c.in-F.is (f-there (checked_source v.source) v.rows v.columns v.counting _ _ _ a row.0 row.1 v.source.length_f))
+    cells-of _ _ _ _ _ (c.args.end - c.args.start) (omega (arith, a.ordered)) (rw c.in-F.is (f-there (checked_source v.source) v.rows v.counting.by_row _ _ _ _ a row.0 row.1 v.source.length_f))
 
 pub returns-in-G : goal.returns-in-G
 returns-in-G c =
     let v = c.args.view.now in
     let a = c.requires in
     let row = some-among v.rows.first v.rows.end c.args.row _ c.has_row.ensures c.if-not-has_row.false in
-    cells-of _ _ _ _ _ (c.args.end - c.args.start) (omega (arith, a.ordered)) (rw c.in-G.is (g-there (checked_source v.source) v.rows v.columns v.counting _ _ _ a row.0 row.1 v.source.length_g))
+    cells-of _ _ _ _ _ (c.args.end - c.args.start) (omega (arith, a.ordered)) (rw c.in-G.is (g-there (checked_source v.source) v.rows v.counting.by_row _ _ _ _ a row.0 row.1 v.source.length_g))
 
 pub slice_bounds-result-end-in-G : goal.slice_bounds-result-end-in-G
 slice_bounds-result-end-in-G c =
     let v = c.args.view.now in
     let row = some-among v.rows.first v.rows.end c.args.row _ c.has_row.ensures c.if-not-has_row.false in
-    g-ends (checked_source v.source) v.rows v.columns v.counting _ _ _ c.requires row.0 row.1 v.source.length_g
+    g-ends (checked_source v.source) v.rows v.counting.by_row _ _ _ _ c.requires row.0 row.1 v.source.length_g

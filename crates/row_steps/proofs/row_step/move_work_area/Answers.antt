@@ -3,7 +3,7 @@ use mathlib.Core.Path.{sym}
 use native.Mathlib.Omega.{arith}
 use Rattle.spec_picture.proofs.Found.{limits}
 use Rattle.spec_picture.specs.Checked.{given, checked_inputs}
-use Rattle.spec_picture.proofs.Windows.{height-small}
+use Rattle.spec_picture.proofs.Windows.{height-small, apart-of}
 use Rattle.row_steps.proofs.Shapes.{no-row, row-above, area-rectangle-first, area-rectangle-next, area-slanted-first, area-slanted-next}
 use Rattle.row_steps.proofs.row_step.move_work_area.Goals as goal
 
@@ -28,4 +28,4 @@ returns-in-false-None c =
     area-slanted-first (checked_inputs c.args.inputs.now) _ _ _ (sym c.in-false-None.ensures) (no-row _ _ c.checked_sub-above.ensures c.in-false-None.is-1) c.first_row.ensures
 
 pub returns-in-false-Some : goal.returns-in-false-Some
-returns-in-false-Some c = area-slanted-next _ _ _ _ _ _ _ (sym c.in-false-Some.ensures) (row-above _ _ _ c.checked_sub-above.ensures c.in-false-Some.is-1) c.next_slanted_row.ensures
+returns-in-false-Some c = area-slanted-next _ _ _ _ _ _ _ (sym c.in-false-Some.ensures) (apart-of c.args.inputs.now.source.frame (given c.args.inputs.now.window) c.args.inputs.now.fitting) (row-above _ _ _ c.checked_sub-above.ensures c.in-false-Some.is-1) c.next_slanted_row.ensures

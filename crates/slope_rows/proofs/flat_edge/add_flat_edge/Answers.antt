@@ -35,5 +35,5 @@ module _ (n : ℕ) (F : ℕ → ℤ) (part : List ℤ) (e : part ≡ tabulate n 
 
 pub returns : goal.returns
 returns c =
-    added-neighbours c.args.source.now.frame.columns c.args.k (change c.args.source.now c.args.i c.args.h) c.args.work.now _ _ _
+    added-neighbours c.args.source.now.frame.columns_wrap c.args.source.now.frame.columns c.args.k (change c.args.source.now c.args.i c.args.h) c.args.work.now _ _ _
     (sym (lent _ _ _ c.step_difference.ensures _)) (changes _ _ _ c.step_difference.ensures _) c.neighbour_sums.ensures c.requires.row.room c.add.ensures

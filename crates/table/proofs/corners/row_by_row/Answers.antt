@@ -8,17 +8,17 @@ use Rattle.spec_picture.specs.Checked.{given}
 use Rattle.numbers.specs.Wrap.{wrap}
 use Rattle.numbers.proofs.Running.{range_none, range-more}
 use Rattle.spec_picture.specs.Window.{shape_of}
-use Rattle.table.proofs.Rectangles.{row_part, part-read, rows-read, reach-small}
+use Rattle.table.proofs.Rectangles.{row-round, row_part, part-read, rows-read, reach-small}
 use Rattle.table.proofs.corners.row_by_row.Goals as goal
 
 pub loop-m-init : goal.loop-m-init
 loop-m-init c =
     let table = c.args.table.now in
-    (omega arith, omega (arith, c.low-m.ensures, c.high-end.ensures, c.requires.row), range_none (row_part table.frame table.numbers.now (shape_of (given c.args.window)) c.args.cell.row c.args.cell.column) _)
+    (omega arith, omega (arith, c.low-m.ensures, c.high-end.ensures, c.requires.1.row), range_none (row_part table.frame table.numbers.now (shape_of (given c.args.window)) c.args.cell.row c.args.cell.column) _)
 
 pub rectangle-part-requires : goal.rectangle-part-requires
 rectangle-part-requires c =
-    (record { row = omega (arith, c.high-end.ensures); column = c.requires.column }, omega arith, reach-small (given c.args.window) c.args.window.legal _ _ c.reach-reach.ensures)
+    (row-round c.args.table.now.frame (shape_of (given c.args.window)) c.args.cell.column _ _ c.args.round c.reach-reach.ensures c.requires.0, record { row = omega (arith, c.high-end.ensures); column = c.requires.1.column }, omega arith, reach-small (given c.args.window) c.args.window.legal _ _ c.reach-reach.ensures)
 
 pub loop-m-preserved : goal.loop-m-preserved
 loop-m-preserved c =
@@ -38,4 +38,4 @@ returns c =
     let table = c.args.table.now in
     rows-read table.frame table.numbers.now (shape_of (given c.args.window)) c.args.cell.row c.args.cell.column
     c.low-m.result c.loop-m.m c.height-height.result _ c.loop-m.invariant.2
-    c.requires.row c.height-height.ensures c.low-m.ensures (omega (arith, c.high-end.ensures))
+    c.requires.1.row c.height-height.ensures c.low-m.ensures (omega (arith, c.high-end.ensures))

@@ -1,29 +1,20 @@
 -- `table::corners::window_sum` meets its contract. Assumes nothing.
 use mathlib.Core.Path.{sym, ◌∙◌}
 use native.Mathlib.Omega.{arith}
-use mir.Facts.{to_z-of_z}
-use mir.Syntax.{w64}
 use Rattle.spec_picture.specs.Checked.{given}
-use Rattle.spec_picture.specs.Window.{shape_of}
-use Rattle.spec_picture.proofs.Windows.{small}
-use Rattle.spec_table.specs.Table.{read_table}
-use Rattle.table.proofs.Rectangles.{read-as-rectangle, read-as-rows, width_small}
+use Rattle.spec_picture.proofs.Refusals.{in-limits}
+use Rattle.table.proofs.Rectangles.{does-wrap, goes-not, width_small}
 use Rattle.table.proofs.corners.window_sum.Goals as goal
 
-pub rectangle-requires : goal.rectangle-requires
-rectangle-requires c =
+pub goes_round-requires : goal.goes_round-requires
+goes_round-requires c =
     let window = c.args.window in
-    (c.requires, omega (arith, c.height-height.ensures, (small (given window) window.legal).low), omega (arith, c.width-width.ensures, width_small (given window) window.legal))
+    (c.requires.column, (in-limits _ c.args.table.now.legal).few_columns, omega (arith, c.width.ensures, width_small (given window) window.legal))
 
-pub returns-then-is_rectangle : goal.returns-then-is_rectangle
-unfolding read_table
-returns-then-is_rectangle c =
-    to_z-of_z {w = w64} (record { sfits = c.rectangle.type_inv })
-    ∙ read-as-rectangle _ _ (shape_of (given c.args.window)) _ _ _ _ _
-    (sym c.is_rectangle.ensures ∙ c.if-is_rectangle.true) c.height-height.ensures c.width-width.ensures c.rectangle.ensures
+pub sum_round-requires : goal.sum_round-requires
+sum_round-requires c =
+    let table = c.args.table.now in
+    (table.legal, table.full, does-wrap table.frame _ _ (sym c.goes_round.ensures ∙ c.if-goes_round.true), c.requires)
 
-pub returns-else-is_rectangle : goal.returns-else-is_rectangle
-unfolding read_table
-returns-else-is_rectangle c =
-    to_z-of_z {w = w64} (record { sfits = c.row_by_row.type_inv })
-    ∙ read-as-rows _ _ (shape_of (given c.args.window)) _ _ _ (sym c.is_rectangle.ensures ∙ c.if-is_rectangle.false) c.row_by_row.ensures
+pub by_shape-requires : goal.by_shape-requires
+by_shape-requires c = (goes-not c.args.table.now.frame _ c.args.cell.column _ c.width.ensures (sym c.goes_round.ensures ∙ c.if-goes_round.false), c.requires)

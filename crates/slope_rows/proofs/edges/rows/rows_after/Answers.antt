@@ -9,9 +9,8 @@ use Rattle.numbers.proofs.Writes.{slice-length}
 use Rattle.spec_picture.specs.Window.{shape_of}
 use Rattle.spec_picture.specs.Checked.{given}
 use Rattle.numbers.proofs.Lines.{line-end}
-use Rattle.slope_loops.specs.Slopes.{padded}
 use Rattle.slope_rows.proofs.Kept.{slopes-begin, holds-begin}
-use Rattle.slope_rows.specs.Edges.{plane_in}
+use Rattle.slope_rows.specs.Edges.{plane_in, padded_in, side}
 use Rattle.slope_rows.proofs.Advances.{passed-more}
 use Rattle.spec_rows.proofs.Strips.{partly_none, partly-all}
 use Rattle.slope_loops.specs.declared.padding.TheConstants.{ABOVE}
@@ -26,8 +25,8 @@ loop-m-init g c =
       c.requires.many.room_work,
       partly_none z (plane_in x) (shape_of (given x.inputs.window)) (suc c.args.rows.row) c.args.work.now c.args.out.now,
       c.requires.rows,
-      slopes-begin (padded (plane_in x)) z.columns _ _ c.args.rows.row _ _ c.requires.slopes,
-      holds-begin (padded (plane_in x)) _ c.args.rows.row _ c.requires.leaving,
+      slopes-begin (padded_in x) z.columns _ _ _ c.args.rows.row _ _ c.requires.slopes,
+      holds-begin z (side x) (padded_in x) _ c.args.rows.row _ c.requires.leaving,
     )
 
 pub next_row-requires : goal.next_row-requires

@@ -1,16 +1,13 @@
 -- `slope_rows::edges::rows::rows_from` meets its contract. Assumes nothing.
 use mathlib.Core.Path.{refl, ◌∙◌}
-use Prim.Native.Nat.{◌+◌, ◌-◌}
+use Prim.Native.Nat.{◌+◌}
 use native.Mathlib.Omega.{arith}
 use lib.ListN.{length}
 use Rattle.spec_picture.proofs.Found.{limits}
 use Rattle.numbers.proofs.Writes.{slice-length}
 use Rattle.spec_picture.specs.Picture.{Inputs}
-use Rattle.spec_picture.specs.Checked.{checked_source, checked_inputs}
-use Rattle.spec_picture.proofs.Planes.{plane-beside}
-use Rattle.slope_loops.specs.Slopes.{padded}
-use Rattle.slope_rows.specs.Edges.{plane_in}
-use Rattle.slope_rows.proofs.Kept.{blank_of}
+use Rattle.spec_picture.specs.Checked.{checked_inputs}
+use Rattle.slope_rows.specs.Edges.{padded_in}
 use Rattle.slope_rows.proofs.BySlopes.{rest-fits, rows-done}
 use Rattle.slope_rows.proofs.Zeros.{blank, no-slopes}
 use Rattle.slope_loops.specs.declared.padding.TheConstants.{ABOVE, ROW_LENGTH}
@@ -27,9 +24,9 @@ start_slopes-requires g c =
           c.requires.plane,
           record {
             inside = omega (arith, c.requires.rows);
-            blank_a = blank g.S.Value.PlaneValue.value ROW_LENGTH refl columns c.zero-a.result c.zero-a.ensures;
-            blank_b = blank g.S.Value.PlaneValue.value ROW_LENGTH refl columns c.zero-b.result c.zero-b.ensures;
-            slopes = no-slopes g.S.Slope.sum ROW_LENGTH refl (padded (plane_in x)) columns x.width (ABOVE + c.args.i) c.zero-rises.result c.zero-falls.result c.zero-rises.ensures c.zero-falls.ensures;
+            blank_a = blank g.S.Value.PlaneValue.value ROW_LENGTH refl x.inputs.source.frame c.zero-a.result c.zero-a.ensures;
+            blank_b = blank g.S.Value.PlaneValue.value ROW_LENGTH refl x.inputs.source.frame c.zero-b.result c.zero-b.ensures;
+            slopes = no-slopes g.S.Slope.sum ROW_LENGTH refl (padded_in x) columns x.beside x.width (ABOVE + c.args.i) c.zero-rises.result c.zero-falls.result c.zero-rises.ensures c.zero-falls.ensures;
           },
         ),
       ),
@@ -43,8 +40,7 @@ overflow_sub-i g c = omega (arith, c.args.slanted.now.fits.low, c.args.slanted.n
 
 pub load-requires : goal.load-requires
 load-requires g c =
-    let columns = c.args.slanted.now.inputs.source.frame.columns in
-    (g.met.S.Value.PlaneValue.row_fits, (c.requires.plane, blank g.S.Value.PlaneValue.value ROW_LENGTH refl columns c.zero-c.result c.zero-c.ensures))
+    (g.met.S.Value.PlaneValue.row_fits, (c.requires.plane, blank g.S.Value.PlaneValue.value ROW_LENGTH refl c.args.slanted.now.inputs.source.frame c.zero-c.result c.zero-c.ensures))
 
 pub rows_after-requires : goal.rows_after-requires
 rows_after-requires g c =
@@ -66,9 +62,9 @@ rows_after-requires g c =
             room_work = top.auto.work ∙ c.requires.room_work;
             room = slice-length top.result end top.new.out (omega (arith, kept, f.0)) (omega arith) ∙ omega (arith, kept, f.1);
           };
-          rows = record { blank_a = r.blank_a; blank_b = r.blank_b; blank_c = blank_of (plane_in x) columns (plane-beside (checked_source x.inputs.source)) _ (ABOVE + c.args.i - x.height) leaves };
+          rows = record { blank_a = r.blank_a; blank_b = r.blank_b; blank_c = leaves.blank };
           slopes = r.slopes;
-          leaving = leaves;
+          leaving = leaves.holds;
         },
       ),
     )

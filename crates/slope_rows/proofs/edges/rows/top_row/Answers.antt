@@ -11,6 +11,7 @@ use mir.Val.{SFits}
 use Rattle.numbers.proofs.Tests.{of-not}
 use Rattle.spec_picture.specs.Picture.{Inputs}
 use Rattle.spec_picture.specs.Checked.{checked_inputs}
+use Rattle.slope_rows.proofs.Windows.{apart-in}
 use Rattle.slope_rows.proofs.BySlopes.{fresh-row, row-front, on-and-off}
 use Rattle.std.proofs.Common.{ap, not}
 use Rattle.slope_rows.proofs.edges.rows.top_row.Goals as goal
@@ -45,7 +46,7 @@ returns g c =
     let row_room = row.auto.out ∙ length-take-le columns c.args.out.now (c.requires.room t) in
     record {
       begins = λ u. refl;
-      row = λ u. fresh-row x (checked c.args.slanted.now.inputs) fits.slanted (rw fits.high at (c.requires.high t)) _ _ c.args.work.now _ _ _ (rw (fits.high, fits.wide) at (c.requires.slopes t)) first_sum.ensures c.requires.room_work written.0;
+      row = λ u. fresh-row x (checked c.args.slanted.now.inputs) fits.slanted (rw fits.high at (c.requires.high t)) _ _ c.args.work.now _ _ _ _ (rw (fits.high, fits.wide) at (c.requires.slopes t)) (rw fits.wide at (apart-in c.args.slanted.now)) first_sum.ensures c.requires.room_work written.0;
       front = λ u. row-front columns c.args.out.now _ _ (c.requires.room t) row_room (written.1 ∙ sym written.0);
       none = λ u. absurd (on-and-off c.args.fresh t u);
       kept = λ u. absurd (on-and-off c.args.fresh t u);

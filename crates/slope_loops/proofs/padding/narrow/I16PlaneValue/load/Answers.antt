@@ -1,9 +1,0 @@
--- `PlaneValue::load` of i16 meets its contract. Assumes nothing.
-use Rattle.slope_loops.proofs.Rows.{load-above, load_row}
-use Rattle.slope_loops.proofs.padding.narrow.I16PlaneValue.load.Goals as goal
-
-pub returns-then-y-lt-ABOVE : goal.returns-then-y-lt-ABOVE
-returns-then-y-lt-ABOVE c = load-above c.args.source.now _ _ _ c.requires.1 c.fill.auto.out c.if-y-lt-ABOVE.true _ c.fill.ensures
-
-pub returns : goal.returns
-returns c = load_row c.args.source.now _ _ _ c.requires.1 c.copied_row.auto.out c.if-y-lt-ABOVE.false _ c.copied_row.ensures
