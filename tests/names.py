@@ -19,7 +19,7 @@ CHANGELOG = "CHANGELOG.md"
 ARCHITECTURE = "docs/ARCHITECTURE.md"
 TRACE = "docs/TRACE.md"
 # They name what stood before, and are not read.
-BEFORE = ("docs/PORT.md", "docs/DESIGN-PASS.md")
+BEFORE = ("docs/PORT.md", "docs/DESIGN-PASS.md", "docs/LOOK-BACK.md")
 DECISIONS = "docs/DECISIONS.md"
 FOLDERS = ("bench", "bindings", "crates", "docs", "include", "samples", "tests")
 # What begins a comment of the source; the documents are read whole.

@@ -2,10 +2,11 @@
 
 ghost use Rattle.spec_picture.specs.Window.{window};
 ghost use Rattle.spec_picture.specs.Picture.{shift, inputs};
-ghost use Rattle.spec_picture.specs.Direct.{direct_call};
+ghost use Rattle.spec_picture.specs.Direct.{direct_checks, direct_call};
 ghost use Rattle.spec_c.specs.Frame.{frame_from};
 ghost use Rattle.spec_c.specs.CResult.{with_value, c_result};
 ghost use Rattle.spec_c.specs.Leaves.{CallLeaves};
+ghost use Rattle.agreement.specs.Numbers.{NumberedBy};
 
 use crate::frames;
 use crate::results::hand_back;
@@ -29,7 +30,8 @@ pub extern "C" fn ls_direct_sum(
     column: usize,
     sum: &mut i64,
 ) -> i32
-    ensures { CallLeaves (c_result with_value (direct_call (inputs (frame_from rows columns columns_wrap) f.now g.now (window shape first second) (shift down right) plane) row column)) sum.old result sum.new }
+    ensures leaves { CallLeaves (c_result with_value (direct_call (inputs (frame_from rows columns columns_wrap) f.now g.now (window shape first second) (shift down right) plane) row column)) sum.old result sum.new }
+    ensures number { NumberedBy (direct_checks (inputs (frame_from rows columns columns_wrap) f.now g.now (window shape first second) (shift down right) plane) row column) result }
 {
     let inputs = Inputs {
         source: Source {

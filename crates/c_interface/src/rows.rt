@@ -2,9 +2,10 @@
 
 ghost use Rattle.spec_picture.specs.Window.{window};
 ghost use Rattle.spec_picture.specs.Picture.{shift, inputs};
-ghost use Rattle.spec_rows.specs.Rows.{row_call};
+ghost use Rattle.spec_rows.specs.Rows.{row_checks, row_call};
 ghost use Rattle.spec_c.specs.Frame.{frame_from};
 ghost use Rattle.spec_c.specs.Leaves.{RowCallLeaves};
+ghost use Rattle.agreement.specs.Numbers.{NumberedBy};
 
 use crate::frames;
 use crate::results::hand_back;
@@ -30,7 +31,8 @@ pub extern "C" fn ls_rows(
     out: &mut [i64],
     granted: &mut usize,
 ) -> i32
-    ensures { RowCallLeaves (row_call (inputs (frame_from rows columns columns_wrap) f.now g.now (window shape first second) (shift down right) plane) position.old request work.old out.old) granted.old result granted.new position.new work.new out.new }
+    ensures leaves { RowCallLeaves (row_call (inputs (frame_from rows columns columns_wrap) f.now g.now (window shape first second) (shift down right) plane) position.old request work.old out.old) granted.old result granted.new position.new work.new out.new }
+    ensures number { NumberedBy (row_checks (inputs (frame_from rows columns columns_wrap) f.now g.now (window shape first second) (shift down right) plane) position.old request work.old out.old) result }
 {
     let inputs = Inputs {
         source: Source {

@@ -2,9 +2,10 @@
 
 ghost use Rattle.std.specs.Prelude.{◌≡◌};
 ghost use Rattle.spec_picture.specs.Window.{window};
-ghost use Rattle.spec_smoothing.specs.Smoothing.{smooth_call};
+ghost use Rattle.spec_smoothing.specs.Smoothing.{smooth_checks, smooth_call};
 ghost use Rattle.spec_c.specs.Frame.{frame_from};
 ghost use Rattle.spec_c.specs.CResult.{with_value, status, c_result};
+ghost use Rattle.agreement.specs.Numbers.{NumberedBy};
 
 use crate::frames;
 use crate::results::done;
@@ -24,6 +25,7 @@ pub extern "C" fn ls_smooth(
 ) -> i32
     ensures status { result ≡ status (c_result with_value (smooth_call (frame_from rows columns columns_wrap) f.now (window shape first second) out.old).answer) }
     ensures area { out.new ≡ (smooth_call (frame_from rows columns columns_wrap) f.now (window shape first second) out.old).area }
+    ensures number { NumberedBy (smooth_checks (frame_from rows columns columns_wrap) f.now (window shape first second) out.old) result }
 {
     let frame = frames::frame_from(rows, columns, columns_wrap);
     let window = Window {

@@ -3,10 +3,11 @@
 ghost use Rattle.std.specs.Prelude.{◌≡◌};
 ghost use Rattle.spec_picture.specs.Window.{window};
 ghost use Rattle.spec_picture.specs.Picture.{shift, source};
-ghost use Rattle.spec_table.specs.Table.{build_call, read_call};
+ghost use Rattle.spec_table.specs.Table.{build_checks, build_call, read_checks, read_call};
 ghost use Rattle.spec_c.specs.Frame.{frame_from};
 ghost use Rattle.spec_c.specs.CResult.{with_value, status, c_result};
 ghost use Rattle.spec_c.specs.Leaves.{CallLeaves};
+ghost use Rattle.agreement.specs.Numbers.{NumberedBy};
 
 use crate::frames;
 use crate::results::{done, hand_back};
@@ -27,6 +28,7 @@ pub extern "C" fn ls_build(
 ) -> i32
     ensures status { result ≡ status (c_result with_value (build_call (source (frame_from rows columns columns_wrap) f.now g.now (shift down right) plane) table.old).answer) }
     ensures area { table.new ≡ (build_call (source (frame_from rows columns columns_wrap) f.now g.now (shift down right) plane) table.old).area }
+    ensures number { NumberedBy (build_checks (source (frame_from rows columns columns_wrap) f.now g.now (shift down right) plane) table.old) result }
 {
     let source = Source {
         frame: frames::frame_from(rows, columns, columns_wrap),
@@ -52,7 +54,8 @@ pub extern "C" fn ls_read(
     column: usize,
     sum: &mut i64,
 ) -> i32
-    ensures { CallLeaves (c_result with_value (read_call (frame_from rows columns columns_wrap) table.now (window shape first second) row column)) sum.old result sum.new }
+    ensures leaves { CallLeaves (c_result with_value (read_call (frame_from rows columns columns_wrap) table.now (window shape first second) row column)) sum.old result sum.new }
+    ensures number { NumberedBy (read_checks (frame_from rows columns columns_wrap) table.now (window shape first second) row column) result }
 {
     let frame = frames::frame_from(rows, columns, columns_wrap);
     let window = Window {

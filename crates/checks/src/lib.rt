@@ -6,10 +6,10 @@ pub mod legal_windows; // legal_windows.rt: the limits of a window and of a shif
 pub mod levels; // levels.rt: what the type of a picture says of its levels
 pub mod operations; // operations.rt: the lines of each operation, as the table of refusals has them
 
-ghost use Rattle.std.specs.Prelude.{◌≡◌, not, [], ◌∷◌, T};
+ghost use Rattle.std.specs.Prelude.{◌≡◌, not, [], ◌∷◌};
 ghost use Rattle.spec_picture.specs.Refusal.{◌when◌, refusal, outcome};
 ghost use Rattle.spec_picture.specs.Answers.{number, refused_by, outcome_by};
-ghost use Rattle.spec_picture.specs.Picture.{source, shift_legal};
+ghost use Rattle.spec_picture.specs.Picture.{source};
 ghost use Rattle.spec_picture.specs.Plane.{plane_number};
 ghost use Rattle.spec_picture.specs.Checked.{given, pictures, checked_pictures, checked_source};
 ghost use Rattle.spec_picture.specs.Conditions.{check3, picture_checks};
@@ -58,9 +58,8 @@ pub fn check_window(window: Window) -> Result<CheckedWindow, Refusal>
     })
 }
 
-// The pictures with a legal shift and a plane.
+// The pictures with a shift and a plane.
 fn with_shift<'a>(pictures: &CheckedPictures<'a>, shift: Shift, plane: Plane) -> CheckedSource<'a>
-    requires { T (shift_legal shift) }
     ensures { checked_source result ≡ source pictures.now.frame pictures.now.f.now pictures.now.g.now shift (plane_number plane) }
 {
     CheckedSource {

@@ -95,7 +95,6 @@ pub fn check_rows<'a>(
 }
 
 // Smoothing. "One picture alone is the case g = f with shift (0, 0)."
-#[tactic(auto, unfolding(spec_picture::specs::Refusal::refusal, spec_picture::specs::Refusal::outcome, spec_picture::specs::Picture::shift_legal))]
 pub fn check_smooth<'a>(
     frame: Frame,
     f: &'a [i16],

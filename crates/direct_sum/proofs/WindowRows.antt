@@ -5,7 +5,7 @@ use Prim.Native.Nat.{ℕ, suc, ◌+◌, ◌-◌, ◌^◌, ◌≤◌, ◌<◌, mi
 use native.Mathlib.Nat.{le-add_right, mul-le-mul}
 use native.Mathlib.Decide.{dec_lt}
 use native.Mathlib.Omega.{arith}
-use lib.Dec.{leb}
+use lib.Dec.{T, leb}
 use mathlib.Core.Bool.{Bool, true, false}
 use lib.IntN.{ℤ, pos, ◌+ℤ◌, ◌-ℤ◌, +ℤ_idl, +ℤ_idr}
 use Rattle.numbers.specs.Sum.{sum_to, pick}
@@ -14,13 +14,12 @@ use Rattle.numbers.proofs.Sums.{sum-cong, sum-none, sum-split, sum-range, near-r
 use Rattle.numbers.proofs.Linear.{any, sums, ring}
 use Rattle.numbers.proofs.Wraps.{wrap-small, wrap-add, wrap-add-right}
 use Rattle.spec_picture.specs.declared.Frame.{Frame}
-use Rattle.spec_picture.specs.Frame.{row_gap, column_gap, Apart}
+use Rattle.spec_picture.specs.Frame.{frame_legal, row_gap, column_gap, Apart}
 use Rattle.spec_picture.specs.Sides.{round_end}
 use Rattle.spec_picture.proofs.Gaps.{near-columns}
 use Rattle.spec_picture.specs.Window.{shape_of, height, reach}
-use Rattle.spec_picture.specs.Picture.{Inputs, plane_at}
+use Rattle.spec_picture.specs.Picture.{Inputs, Levels, plane_at}
 use Rattle.spec_picture.specs.Direct.{window_sum, direct_sum}
-use Rattle.spec_picture.proofs.Found.{Checked}
 use Rattle.spec_picture.proofs.Refusals.{in-limits}
 use Rattle.spec_picture.proofs.Windows.{by_rows, window-bound}
 use Rattle.spec_picture.proofs.Planes.{plane-bound}
@@ -182,22 +181,23 @@ rows-total x i j l =
     sym (by_rows z s (plane_at x.source) i j ∙ near-range z.rows i h row ∙ ap (λ (k : ℕ). sum_to (min (suc (i + h)) z.rows - k) (λ q. row (k + q))) top)
 
 -- the direct sum of pictures of levels is far below 2 ^ 63
-pub direct-fits : (x : Inputs) (i j : ℕ) → Checked x → wrap (direct_sum x i j) ≡ direct_sum x i j
+pub direct-fits : (x : Inputs) (i j : ℕ) → T (frame_legal x.source.frame) → Levels x.source.f → Levels x.source.g → wrap (direct_sum x i j) ≡ direct_sum x i j
 unfolding direct_sum
-direct-fits x i j checked =
+direct-fits x i j legal levels_f levels_g =
     let z = x.source.frame in
-    let l = in-limits z checked.frame in
+    let l = in-limits z legal in
     wrap-small (window_sum z (shape_of x.window) (plane_at x.source) i j)
-    (omega (arith, window-bound z (shape_of x.window) (plane_at x.source) (2 ^ 30) i j (plane-bound x.source checked.levels_f checked.levels_g), mul-le-mul l.few_rows l.few_columns))
+    (omega (arith, window-bound z (shape_of x.window) (plane_at x.source) (2 ^ 30) i j (plane-bound x.source levels_f levels_g), mul-le-mul l.few_rows l.few_columns))
 
 -- after the window's last row the loop has the direct sum
 pub rows-done : (x : Inputs) (i j top bottom m : ℕ) (s : ℤ) →
     let h = height (shape_of x.window) in
-    i < x.source.frame.rows → top ≡ i - h → bottom ≡ min (suc (i + h)) x.source.frame.rows → m ≡ bottom → Checked x →
+    i < x.source.frame.rows → top ≡ i - h → bottom ≡ min (suc (i + h)) x.source.frame.rows → m ≡ bottom →
+    T (frame_legal x.source.frame) → Levels x.source.f → Levels x.source.g →
     s ≡ wrap (sum_to (m - top) (λ k. window_row x i j (top + k))) → s ≡ direct_sum x i j
-rows-done x i j top bottom m s l et eb em checked e =
+rows-done x i j top bottom m s l et eb em legal levels_f levels_g e =
     e
     ∙ ap (λ (n : ℕ). wrap (sum_to (n - top) (λ k. window_row x i j (top + k)))) (em ∙ eb)
     ∙ ap (λ (n : ℕ). wrap (sum_to (min (suc (i + height (shape_of x.window))) x.source.frame.rows - n) (λ k. window_row x i j (n + k)))) et
     ∙ ap wrap (rows-total x i j l)
-    ∙ direct-fits x i j checked
+    ∙ direct-fits x i j legal levels_f levels_g

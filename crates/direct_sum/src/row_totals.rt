@@ -54,14 +54,11 @@ fn part_sum(view: &View<'_>, row: usize, stretch: Overlap, start: usize, end: us
     requires { AllCount view.now.source.frame view.now.source.shift stretch start end }
     ensures { result ≡ wrap (sum_to (end - start) (λ k. plane_at (checked_source view.now.source) row (start + k))) }
 {
+    if !view.has_row(row) {
+        return 0;
+    }
     match factors_of(view.source.plane) {
-        Factors::Level(Factor::One) => {
-            if view.has_row(row) {
-                (end - start) as i64
-            } else {
-                0
-            }
-        }
+        Factors::Level(Factor::One) => (end - start) as i64,
         Factors::Level(q) => levels_total(part(view, q, row, stretch, start, end)),
         Factors::Square(q) => {
             let levels = part(view, q, row, stretch, start, end);

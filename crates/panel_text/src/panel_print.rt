@@ -2,13 +2,12 @@
 // area and answers how many bytes it wrote: a writer that held both would be lent by `&mut` to each of them, and say in every contract what it held before.
 
 ghost use Rattle.std.specs.Prelude.{◌*◌, ◌≤◌, ◌∷◌, [], ◌++◌, length};
-ghost use Rattle.spec_picture.specs.Answers.{number as number_of};
 ghost use Rattle.spec_panel.specs.Text.{printed};
 ghost use Rattle.spec_panel.specs.Panel.{lines_of, refused_line};
 ghost use Rattle.panel_text.specs.Print.{Written, Fitted, LineRoom, LineWritten, LinesRoom, value_at};
 
 use itoa::Buffer;
-use spec_picture::{Frame, Refusal};
+use spec_picture::Frame;
 
 // Bytes, copied to the front of the area.
 fn put(bytes: &[u8], out: &mut [u8]) -> usize
@@ -64,13 +63,13 @@ pub fn lines(frame: Frame, means: &[i16], out: &mut [u8]) -> usize
     len
 }
 
-// "the word, a space and the number", and a line feed.
-pub fn refused(refusal: Refusal, out: &mut [u8]) -> usize
+// "the word, a space and the number", and a line feed, of any number.
+pub fn refused(number: u32, out: &mut [u8]) -> usize
     requires { 19 ≤ length out.old }
-    ensures { Fitted (refused_line (number_of refusal)) out.old out.new result }
+    ensures { Fitted (refused_line number) out.old out.new result }
 {
     let mut buffer = Buffer::new();
-    let digits = buffer.format(u32::from(refusal)).as_bytes();
+    let digits = buffer.format(number).as_bytes();
     let mut len = put(b"refused ", out);
     len += put(digits, &mut out[len..]);
     out[len] = b'\n';

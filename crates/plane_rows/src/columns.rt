@@ -37,6 +37,7 @@ fn remainder_of(n: usize, by: i32) -> usize
 }
 
 // Which columns count where those of g are shifted by `by`: "A counting cell of g is found at the wrapped column."
+#[inline(always)]
 pub fn columns_of(frame: Frame, by: i32) -> Columns
     requires { 1 ≤ frame.columns }
     ensures { Wrapping frame by result }

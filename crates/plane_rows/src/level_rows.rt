@@ -28,15 +28,18 @@ pub fn fill(out: &mut [i16], value: i16)
     out.fill(value);
 }
 
-// The levels are copied.
+// The levels are copied. A loop, since the library's copy calls C's memmove.
 fn copy(levels: &[i16], out: &mut [i16])
     requires { length levels.now ≡ length out.old }
     ensures { out.new ≡ levels.now }
 {
-    out.copy_from_slice(levels);
+    for k in 0..out.len() {
+        out[k] = levels[k];
+    }
 }
 
 // The columns from `start` up to `end` of one of the two stretches of columns that count: as the picture has them if the row counts, and zeros if it does not.
+#[inline(always)]
 #[tactic(auto, unfolding(spec_picture::specs::Frame::frame_legal))]
 pub fn part<'a>(
     view: &View<'a>,
@@ -69,6 +72,7 @@ pub fn part<'a>(
 }
 
 // A whole row as the picture has it, where all columns count and none is past the seam.
+#[inline(always)]
 pub fn own_row<'a>(view: &View<'a>, factor: Factor, row: usize) -> Option<&'a [i16]>
     ensures { IfSome result (λ levels. Cells (plane_at (on_factor (checked_source view.now.source) factor)) row 0 view.now.source.frame.columns levels.now) }
 {
@@ -81,6 +85,7 @@ pub fn own_row<'a>(view: &View<'a>, factor: Factor, row: usize) -> Option<&'a [i
 }
 
 // A whole row is written to out: up to the seam and from there on, with zeros where cells do not count.
+#[inline(always)]
 pub fn copied(view: &View<'_>, factor: Factor, row: usize, out: &mut [i16])
     requires { length out.old ≡ view.now.source.frame.columns }
     ensures { out.new ≡ tabulate view.now.source.frame.columns (plane_at (on_factor (checked_source view.now.source) factor) row) }
@@ -106,6 +111,7 @@ pub fn copied(view: &View<'_>, factor: Factor, row: usize, out: &mut [i16])
 }
 
 // The same of a plane of ones or levels.
+#[inline(always)]
 pub fn copied_row(source: &CheckedSource<'_>, row: usize, out: &mut [i16])
     requires { (plane_number source.now.plane ≤ 2) × (length out.old ≡ source.now.frame.columns) }
     ensures { out.new ≡ tabulate source.now.frame.columns (plane_at (checked_source source.now) row) }

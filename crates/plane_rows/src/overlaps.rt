@@ -9,6 +9,7 @@ mod overlap; // overlap.rt: the places that count along one side
 pub use overlap::Overlap;
 
 // Which of n places count where those of g are shifted by `by`.
+#[inline(always)]
 pub fn overlap_of(n: usize, by: i32) -> Overlap
     ensures { Overlapping n by result }
 {

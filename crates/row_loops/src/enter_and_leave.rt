@@ -74,6 +74,10 @@ pub fn enter_and_leave(source: &CheckedSource<'_>, enter: usize, leave: usize, s
 {
     let view = view_of(source);
     numbers_fit(sums);
+    // Nothing changes where neither row counts, as most of those of a window that is higher than the picture.
+    if !view.has_row(enter) && !view.has_row(leave) {
+        return;
+    }
     let along = view.columns.along;
     let round = view.columns.round;
     let seam = along.end;

@@ -1,6 +1,6 @@
 // The work area from row to row, and the output row that it gives.
 
-ghost use Rattle.std.specs.Prelude.{◌≡◌};
+ghost use Rattle.std.specs.Prelude.{◌≡◌, length};
 ghost use Rattle.spec_picture.specs.Window.{shape_of};
 ghost use Rattle.spec_picture.specs.Picture.{plane_at};
 ghost use Rattle.spec_picture.specs.Checked.{given, checked_source, checked_inputs};
@@ -30,6 +30,16 @@ fn move_work_area(position: usize, inputs: &CheckedInputs<'_>, work: &mut [i64],
     }
 }
 
+// The work area is copied. A loop, since the library's copy calls C's memmove.
+fn copy(work: &[i64], out: &mut [i64])
+    requires { length work.now ≡ length out.old }
+    ensures { out.new ≡ work.now }
+{
+    for j in 0..out.len() {
+        out[j] = work[j];
+    }
+}
+
 // The output row: of a rectangle the sums across the work area, of the others the work area.
 fn write_output(frame: Frame, window: CheckedWindow, work: &[i64], out: &mut [i64])
     requires { OutputRequires frame (shape_of (given window)) work.now out.old }
@@ -38,7 +48,7 @@ fn write_output(frame: Frame, window: CheckedWindow, work: &[i64], out: &mut [i6
     if shape::is_rectangle(window) {
         sliding_sums::neighbour_sums(frame.columns_wrap, work, shape::width(window), out);
     } else {
-        out.copy_from_slice(work);
+        copy(work, out);
     }
 }
 

@@ -27,5 +27,5 @@ module _ {X : Type 0} (f : X → ℤ) where
     next_replaced v h e = rw (map-set f now (n + s) v) (replaced_more u (f v) h e)
 
 -- how large a sum is when a number was added and one subtracted
-pub added-small : (s a b : ℤ) (M V : ℕ) → mag s ≤ M → mag a ≤ V → mag b ≤ V → 127 * (2 * V) + 4 ≤ M → mag (s +ℤ (a -ℤ b)) ≤ 2 * M
-added-small s a b M V hs ha hb room = omega (arith, hs, ha, hb, room, mag-add s (a -ℤ b), mag-sub a b)
+pub added-small : (s a b : ℤ) (M V N : ℕ) → mag s ≤ M → mag a ≤ V → mag b ≤ V → M + 2 * V + 4 ≤ N → mag (s +ℤ (a -ℤ b)) ≤ N
+added-small s a b M V N hs ha hb room = omega (arith, hs, ha, hb, room, mag-add s (a -ℤ b), mag-sub a b)

@@ -1,7 +1,7 @@
 // Loops over the slopes of the planes, of either width: they move the slopes on, and add them to the work row.
 // For callers that have checked their inputs.
 
-ghost use Rattle.std.specs.Prelude.{◌≡◌, ℕ, ◌+◌, ◌*◌, ◌^◌, ◌<◌, ◌≤◌, ℤ, pos, ◌+ℤ◌, ◌-ℤ◌, length, map};
+ghost use Rattle.std.specs.Prelude.{◌≡◌, ℕ, ◌+◌, ◌-◌, ◌*◌, ◌^◌, ◌<◌, ◌≤◌, ℤ, pos, ◌+ℤ◌, ◌-ℤ◌, length, map};
 ghost use Rattle.std.specs.Int.Signed.{mag};
 ghost use Rattle.std.specs.Mem.{type_size};
 ghost use Rattle.std.proofs.Common.{arith};
@@ -20,8 +20,14 @@ pub trait Slope: Copy {
     // the sum that one stands for
     ghost sum: { Self → ℤ };
 
-    // how large a slope's sum is
+    // how large a slope's sum is where two are added
     ghost sum_max: { ℕ };
+
+    // how large it is where `gather` and `slide` move it on
+    ghost moved_max: { ℕ };
+
+    // how large it is where a cell enters and one leaves
+    ghost before_max: { ℕ };
 
     // 0
     fn zero() -> Self
@@ -29,7 +35,7 @@ pub trait Slope: Copy {
 
     // self + enters - leaves
     fn enter_and_leave(self, enters: Self::Value, leaves: Self::Value) -> Self
-        requires { (mag (sum self) ≤ 2 * sum_max) × (mag (Self.Value.value enters) ≤ Self.Value.value_max) × (mag (Self.Value.value leaves) ≤ Self.Value.value_max) }
+        requires { (mag (sum self) ≤ before_max) × (mag (Self.Value.value enters) ≤ Self.Value.value_max) × (mag (Self.Value.value leaves) ≤ Self.Value.value_max) }
         ensures { sum result ≡ sum self +ℤ (Self.Value.value enters -ℤ Self.Value.value leaves) };
 
     // self
@@ -49,6 +55,12 @@ pub trait Slope: Copy {
     // a slope has at most 127 cells that enter and as many that leave
     ghost room: { 127 * (2 * Self.Value.value_max) + 4 ≤ sum_max };
 
+    // so they are in what the loops take
+    ghost room_moved: { 127 * (2 * Self.Value.value_max) + 4 ≤ moved_max };
+
+    // `slide` has a second cell enter and leave
+    ghost room_before: { moved_max + 2 * Self.Value.value_max + 4 ≤ before_max };
+
     // the slopes fit in memory
     ghost slopes_fit: { ROW_LENGTH * type_size Self.row < 2 ^ 63 };
 }
@@ -61,7 +73,15 @@ impl Slope for i32 {
 
     ghost sum_max = { 2 ^ 29 };
 
+    ghost moved_max = { 2 ^ 30 };
+
+    ghost before_max = { 2 ^ 31 - 2 ^ 17 - 1 };
+
     ghost room = { omega arith };
+
+    ghost room_moved = { omega arith };
+
+    ghost room_before = { omega arith };
 
     ghost slopes_fit = { omega arith };
 
@@ -94,7 +114,15 @@ impl Slope for i64 {
 
     ghost sum_max = { 2 ^ 60 };
 
+    ghost moved_max = { 2 ^ 60 };
+
+    ghost before_max = { 2 ^ 61 };
+
     ghost room = { omega arith };
+
+    ghost room_moved = { omega arith };
+
+    ghost room_before = { omega arith };
 
     ghost slopes_fit = { omega arith };
 
@@ -152,7 +180,7 @@ pub fn gather<S: Slope>(
     places: GatherPlaces,
     sums: &mut [S; ROW_LENGTH],
 )
-    requires { GatherRequires S.sum_max (map S.Value.value a.now) (map S.Value.value b.now) n places (map S.sum sums.old) × AtMost S.Value.value_max (map S.Value.value a.now) places.enters n × AtMost S.Value.value_max (map S.Value.value b.now) places.leaves n }
+    requires { GatherRequires S.moved_max (map S.Value.value a.now) (map S.Value.value b.now) n places (map S.sum sums.old) × AtMost S.Value.value_max (map S.Value.value a.now) places.enters n × AtMost S.Value.value_max (map S.Value.value b.now) places.leaves n }
     ensures { Replaced (gathered (map S.Value.value a.now) (map S.Value.value b.now) places (map S.sum sums.old)) (map S.sum sums.old) (map S.sum sums.new) places.sums n }
 {
     for x in 0..n {
@@ -172,7 +200,7 @@ pub fn slide<S: Slope>(
     places: SlidePlaces,
     sums: &mut [S; ROW_LENGTH],
 )
-    requires { SlideRequires S.sum_max (map S.Value.value a.now) (map S.Value.value b.now) (map S.Value.value c.now) n places (map S.sum sums.old) × AtMost S.Value.value_max (map S.Value.value a.now) places.lower_new n × AtMost S.Value.value_max (map S.Value.value b.now) places.lower_gone n × AtMost S.Value.value_max (map S.Value.value b.now) places.upper_new n × AtMost S.Value.value_max (map S.Value.value c.now) places.upper_gone n }
+    requires { SlideRequires S.moved_max (map S.Value.value a.now) (map S.Value.value b.now) (map S.Value.value c.now) n places (map S.sum sums.old) × AtMost S.Value.value_max (map S.Value.value a.now) places.lower_new n × AtMost S.Value.value_max (map S.Value.value b.now) places.lower_gone n × AtMost S.Value.value_max (map S.Value.value b.now) places.upper_new n × AtMost S.Value.value_max (map S.Value.value c.now) places.upper_gone n }
     ensures { Replaced (slid (map S.Value.value a.now) (map S.Value.value b.now) (map S.Value.value c.now) places (map S.sum sums.old)) (map S.sum sums.old) (map S.sum sums.new) places.sums n }
 {
     for x in 0..n {

@@ -63,6 +63,7 @@ pub fn join_sides<V: PlaneValue>(columns: usize, side: usize, buf: &mut [V; ROW_
 }
 
 // Row y of the padded plane, as far as `side` columns beside the picture's own. Beside them the buffer has zeros where columns clip, and keeps them.
+#[inline(always)]
 pub fn load<V: PlaneValue>(
     source: &CheckedSource<'_>,
     y: usize,

@@ -3,7 +3,7 @@ ghost use Rattle.std.specs.Prelude.{◌≡◌, T, length};
 ghost use Rattle.spec_picture.specs.Frame.{frame_legal, cells};
 ghost use Rattle.spec_picture.specs.Window.{window as window_of, window_legal, fits};
 ghost use Rattle.spec_picture.specs.Shape.{shape_number};
-ghost use Rattle.spec_picture.specs.Picture.{shift_legal, Levels};
+ghost use Rattle.spec_picture.specs.Picture.{Levels};
 
 use crate::{Frame, Plane, Shape, Shift};
 
@@ -30,8 +30,10 @@ pub struct CheckedPictures<'a> {
     pub ghost levels_g: { Levels g.now },
 }
 
-// Two pictures of a legal frame, a legal shift, and a plane. The fields of `CheckedPictures` once more, and no such field: every function reads them, and would reach
-// through one more name. Nor is a legal frame a type of its own beside `Frame`, which the definitions take.
+// Two pictures of a legal frame, a shift, and a plane. The fields of `CheckedPictures` once more, and no such field: every function reads them, and would reach
+// through one more name. Nor is a legal frame a type of its own beside `Frame`, which the definitions take. Of the shift nothing is asked: the checks refuse one beyond
+// limits, and the functions that take a checked source promise their sums under any. A plane's number above 5 is summed as `Plane::Product` is (`product-above` in
+// `proofs/Planes`).
 #[derive(Clone, Copy)]
 pub struct CheckedSource<'a> {
     pub frame: Frame,
@@ -44,7 +46,6 @@ pub struct CheckedSource<'a> {
     pub ghost length_g: { length g.now ≡ cells frame },
     pub ghost levels_f: { Levels f.now },
     pub ghost levels_g: { Levels g.now },
-    pub ghost shift_within: { T (shift_legal shift) },
 }
 
 // The same with a window that fits the columns where they wrap: "they are accepted when .. none that looks at them alone holds".

@@ -20,7 +20,8 @@ use plane_rows::planes;
 use plane_rows::view::view_of;
 use spec_picture::CheckedSource;
 
-// Row i of the table, from the row above it; a row of ones or levels may be copied into the buffer.
+// Row i of the table, from the row above it; a row of ones or levels may be copied into the buffer. Inlined, so that what the loop does not change is found once.
+#[inline(always)]
 fn table_row(
     source: &CheckedSource<'_>,
     i: usize,

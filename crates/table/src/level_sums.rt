@@ -8,8 +8,8 @@ ghost use Rattle.table.specs.RowSums.{number, row_number};
 
 use arithmetic::wrapping;
 
-// A row of the table, from a row of levels and the row above it. Not inlined: where the loop lay in its caller, it took up to 1.2 times as long.
-#[inline(never)]
+// A row of the table, from a row of levels and the row above it. Inlined, as its caller is: a call for each row made a table of a picture of one column take 1.5 times as long.
+#[inline(always)]
 pub fn next_levels(levels: &[i16], above: &[i64], row: &mut [i64])
     requires { (length levels.now ≡ length row.old) × (length above.now ≡ length row.old) }
     ensures { row.new ≡ tabulate (length row.old) (row_number above.now (number levels.now)) }

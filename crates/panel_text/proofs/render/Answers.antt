@@ -18,5 +18,5 @@ returns-in-Ok c =
 
 pub returns-in-Err : goal.returns-in-Err
 returns-in-Err c =
-    let r = panel-rendered _ _ c.if-out-lt-ROOM.false c.parse.result _ c.parse.ensures _ c.in-Err.is _ _ (refused-fitted c.in-Err.refusal c.parse.new.levels _ _ _ c.refused.ensures) in
+    let r = panel-rendered _ _ c.if-out-lt-ROOM.false c.parse.result _ c.parse.ensures _ c.in-Err.is _ _ (refused-fitted c.in-Err.refusal c.parse.new.levels _ _ _ (rw c.from.ensures at c.refused.ensures)) in
     record { count = r.0; area = r.1 }

@@ -28,6 +28,7 @@ impl PlaneValue for i16 {
         0
     }
 
+    #[inline(always)]
     fn own_columns(source: &CheckedSource<'_>, y: usize, out: &mut [i16]) {
         if y < ABOVE {
             fill(out, 0);

@@ -9,13 +9,13 @@ pub slide-requires : goal.slide-requires
 slide-requires g c =
     let x = c.args.slanted.now in
     let p = c.requires.row in
-    (search rules, (search rules, rises-slide x _ p.inside g.S.Value.PlaneValue.holds _ _ g.met.S.Value.PlaneValue.small c.requires.plane g.met.S.Slope.room p.turn c.add_seam.ensures c.load.ensures.holds c.load-2.ensures.holds c.load-3.ensures.holds _ c.rising_places.ensures))
+    (search rules, (search rules, rises-slide x _ p.inside g.S.Value.PlaneValue.holds _ _ g.met.S.Value.PlaneValue.small c.requires.plane g.met.S.Slope.room_moved p.turn c.add_seam.ensures c.load.ensures.holds c.load-2.ensures.holds c.load-3.ensures.holds _ c.rising_places.ensures))
 
 pub slide-requires-2 : goal.slide-requires-2
 slide-requires-2 g c =
     let x = c.args.slanted.now in
     let p = c.requires.row in
-    (search rules, (search rules, falls-slide x _ p.inside g.S.Value.PlaneValue.holds _ _ g.met.S.Value.PlaneValue.small c.requires.plane g.met.S.Slope.room p.turn c.add_seam.ensures c.load.ensures.holds c.load-2.ensures.holds c.load-3.ensures.holds _ c.falling_places.ensures))
+    (search rules, (search rules, falls-slide x _ p.inside g.S.Value.PlaneValue.holds _ _ g.met.S.Value.PlaneValue.small c.requires.plane g.met.S.Slope.room_moved p.turn c.add_seam.ensures c.load.ensures.holds c.load-2.ensures.holds c.load-3.ensures.holds _ c.falling_places.ensures))
 
 pub returns : goal.returns
 returns g c =

@@ -1,5 +1,5 @@
 -- `direct_sum::row_totals::part_sum` meets its contract. Assumes nothing.
-use Rattle.std.proofs.Common.{arith, true, false, ◌+◌, ◌-◌, ◌≤◌, ◌∙◌, sym, ap, pos, w64}
+use Rattle.std.proofs.Common.{arith, true, ◌+◌, ◌-◌, ◌≤◌, ◌∙◌, sym, ap, pos, w64}
 use mir.Val.{SFits}
 use mir.Facts.{to_z-of_z, to_z_pos}
 use Rattle.numbers.specs.Wrap.{wrap}
@@ -8,13 +8,15 @@ use Rattle.numbers.proofs.Wraps.{wrap-fits, wrap-small}
 use Rattle.spec_picture.specs.Checked.{checked_source}
 use Rattle.spec_picture.proofs.Found.{limits}
 use Rattle.plane_rows.specs.declared.factors.Factor.TheVariants.{One}
+use Rattle.plane_rows.proofs.CountingCells.{row-outside}
+use Rattle.plane_rows.proofs.OverlapLaws.{none-among}
 use Rattle.plane_rows.proofs.LevelParts.{plane-0}
 use Rattle.plane_rows.proofs.FactorLaws.{plane-level, plane-product}
 use Rattle.direct_sum.proofs.Totals.{count, levels-summed, products-summed}
 use Rattle.direct_sum.proofs.row_totals.part_sum.Goals as goal
 
-pub returns-then-has_row : goal.returns-then-has_row
-returns-then-has_row c =
+pub returns-in-Level-One : goal.returns-in-Level-One
+returns-in-Level-One c =
     let v = c.args.view.now in
     let a = c.requires in
     let x = checked_source v.source in
@@ -23,16 +25,13 @@ returns-then-has_row c =
     let few : n ≤ 1024 = omega (arith, a.upto, a.counting.within, (limits v.source).few_columns) in
     to_z_pos w64 (omega (arith, few)) ∙ sym (wrap-small (pos n) (omega (arith, few)))
     ∙ ap wrap (count n _
-    (λ k k<. plane (c.args.start + k) ∙ plane-0 x v.rows v.counting.by_row c.args.stretch a.counting c.args.row (c.args.start + k) true (sym c.if-has_row.true ∙ c.has_row.ensures) (omega (arith, a.from)) (omega (arith, a.upto))))
+    (λ k k<. plane (c.args.start + k) ∙ plane-0 x v.rows v.counting.by_row c.args.stretch a.counting c.args.row (c.args.start + k) true (sym c.if-not-has_row.false ∙ c.has_row.ensures) (omega (arith, a.from)) (omega (arith, a.upto))))
 
-pub returns-else-has_row : goal.returns-else-has_row
-returns-else-has_row c =
+pub returns-then-not-has_row : goal.returns-then-not-has_row
+returns-then-not-has_row c =
     let v = c.args.view.now in
-    let a = c.requires in
-    let x = checked_source v.source in
-    let plane = plane-level x One (rw c.in-Level-One.field-0-is at c.in-Level-One.ensures.values) c.args.row in
     sym (ap wrap (sum-none (c.args.end - c.args.start) _
-    (λ k k<. plane (c.args.start + k) ∙ plane-0 x v.rows v.counting.by_row c.args.stretch a.counting c.args.row (c.args.start + k) false (sym c.if-has_row.false ∙ c.has_row.ensures) (omega (arith, a.from)) (omega (arith, a.upto))))
+    (λ k k<. row-outside (checked_source v.source) c.args.row (c.args.start + k) v.rows v.counting.by_row (none-among v.rows.first v.rows.end c.args.row _ c.has_row.ensures c.if-not-has_row.true)))
     ∙ wrap-small (pos 0) (omega arith))
 
 pub returns-in-Level : goal.returns-in-Level

@@ -39,6 +39,7 @@ returns c =
     let cell = c.args.cell in
     let x = checked_inputs c.args.inputs in
     let height = c.height-height.ensures in
+    let found = checked c.args.inputs in
     rows-done x cell.row cell.column c.low-m.result c.high-bottom.result c.loop-m.m _ c.requires.row
     (c.low-m.ensures ∙ ap (λ (h : ℕ). cell.row - h) height) (c.high-bottom.ensures ∙ ap (λ (h : ℕ). min (suc (cell.row + h)) x.source.frame.rows) height)
-    (omega arith) (checked c.args.inputs) c.loop-m.invariant
+    (omega arith) found.frame found.levels_f found.levels_g c.loop-m.invariant

@@ -9,7 +9,8 @@ use Rattle.spec_picture.specs.Picture.{Source, plane_at}
 use Rattle.spec_picture.specs.Checked.{checked_source}
 use Rattle.plane_rows.specs.declared.columns.Columns.{Columns}
 use Rattle.plane_rows.specs.Columns.{Wrapping}
-use Rattle.plane_rows.proofs.CountingCells.{column-outside}
+use Rattle.plane_rows.proofs.OverlapLaws.{none-among}
+use Rattle.plane_rows.proofs.CountingCells.{column-outside, row-outside}
 use Rattle.row_loops.specs.Added.{Numbers}
 use Rattle.row_loops.proofs.Entering.{Changed, changed_none, changed-more, changed-same, sums-changed}
 use Rattle.row_loops.proofs.enter_and_leave.enter_and_leave.Goals as goal
@@ -44,12 +45,25 @@ module _ (x : Source) (columns : Columns) (w : Wrapping x.frame x.shift.right co
   all : {now : List ℤ} → Changed change sums now first last → now ≡ tabulate x.frame.columns (λ j. wrap (at sums j +ℤ change j))
   all u = sums-changed u x.frame.columns room numbers (λ j j< never. ap₂ ◌-ℤ◌ (column-outside x enter j columns w j< never) (column-outside x leave j columns w j< never))
 
+  -- nothing changes where no cell of either row counts
+  without-rows : ((j : ℕ) → plane_at x enter j ≡ pos 0) → ((j : ℕ) → plane_at x leave j ≡ pos 0) → sums ≡ tabulate x.frame.columns (λ j. wrap (at sums j +ℤ change j))
+  without-rows entering leaving = sums-changed (changed_none change sums first) x.frame.columns room numbers (λ j j< never. ap₂ ◌-ℤ◌ (entering j) (leaving j))
+
   module _ (part : List ℤ) (e : Part first seam sums part) where
     without-round : last ≤ seam → put_mid first (seam - first) sums part ≡ tabulate x.frame.columns (λ j. wrap (at sums j +ℤ change j))
     without-round l = all (changed-same (along part e) last columns.along.ordered seam≤ fits l)
 
     with-round : (rest : List ℤ) → Part seam last (put_mid first (seam - first) sums part) rest → put_mid seam (last - seam) (put_mid first (seam - first) sums part) rest ≡ tabulate x.frame.columns (λ j. wrap (at sums j +ℤ change j))
     with-round rest d = all (changed-more (along part e) last columns.along.ordered seam≤ fits rest d)
+
+pub returns-then-not-has_row-2 : goal.returns-then-not-has_row-2
+returns-then-not-has_row-2 c =
+    let v = c.view_of-view.result in
+    let x = checked_source v.source in
+    rw (← c.view_of-view.ensures)
+    (without-rows x v.columns v.counting.by_column c.args.enter c.args.leave c.args.sums.now (rw (← c.view_of-view.ensures) at c.requires) c.numbers_fit.ensures
+    (λ j. row-outside x c.args.enter j v.rows v.counting.by_row (none-among v.rows.first v.rows.end c.args.enter _ c.has_row.ensures c.if-not-has_row.true))
+    (λ j. row-outside x c.args.leave j v.rows v.counting.by_row (none-among v.rows.first v.rows.end c.args.leave _ c.has_row-then-not-has_row.ensures c.if-not-has_row-2.true)))
 
 pub returns-then-seam-end : goal.returns-then-seam-end
 returns-then-seam-end c =

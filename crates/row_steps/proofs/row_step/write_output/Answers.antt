@@ -12,4 +12,4 @@ returns-then-is_rectangle c =
 
 pub returns-else-is_rectangle : goal.returns-else-is_rectangle
 returns-else-is_rectangle c =
-    output-slanted c.args.frame (shape_of (given c.args.window)) c.args.work.now _ (sym c.is_rectangle.ensures ∙ c.if-is_rectangle.false) c.copy_from_slice.ensures.after
+    output-slanted c.args.frame (shape_of (given c.args.window)) c.args.work.now _ (sym c.is_rectangle.ensures ∙ c.if-is_rectangle.false) c.copy.ensures

@@ -11,7 +11,7 @@ enter_and_leave-requires g c =
     let l = c.loop-x in
     let V = g.S.Value.PlaneValue in
     let inside = c.loop-x-test.true in (
-      rw (next_read g.S.Slope.sum c.args.sums.now l.sums l.invariant c.index-sums-x.result (omega arith)) (omega (arith, c.requires.0.within.each l.x inside)),
+      rw (next_read g.S.Slope.sum c.args.sums.now l.sums l.invariant c.index-sums-x.result (omega arith)) (omega (arith, c.requires.0.within.each l.x inside, g.met.S.Slope.room_before)),
       rw (read V.value c.args.a.now (l.x + c.args.places.enters) c.index-a-x.result (omega arith)) (c.requires.1.each l.x inside),
       rw (read V.value c.args.b.now (l.x + c.args.places.leaves) c.index-b-x.result (omega arith)) (c.requires.2.each l.x inside),
     )

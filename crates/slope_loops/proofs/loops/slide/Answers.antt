@@ -14,7 +14,7 @@ enter_and_leave-requires g c =
     let l = c.loop-x in
     let V = g.S.Value.PlaneValue in
     let inside = c.loop-x-test.true in (
-      rw (next_read g.S.Slope.sum c.args.sums.now l.sums l.invariant c.index-sums-x.result (omega arith)) (omega (arith, c.requires.0.within.each l.x inside)),
+      rw (next_read g.S.Slope.sum c.args.sums.now l.sums l.invariant c.index-sums-x.result (omega arith)) (omega (arith, c.requires.0.within.each l.x inside, g.met.S.Slope.room_before)),
       rw (read V.value c.args.a.now (l.x + c.args.places.lower_new) c.index-a-x.result (omega arith)) (c.requires.1.each l.x inside),
       rw (read V.value c.args.b.now (l.x + c.args.places.lower_gone) c.index-b-x.result (omega arith)) (c.requires.2.each l.x inside),
     )
@@ -29,7 +29,7 @@ enter_and_leave-requires-in-loop-x g c =
     let leaves = at (map V.value c.args.b.now) (l.x + c.args.places.lower_gone) in
     let inside = c.loop-x-test.true in (
       rw (c.enter_and_leave.ensures, next_read S.sum c.args.sums.now l.sums l.invariant c.index-sums-x.result (omega arith), read V.value c.args.a.now (l.x + c.args.places.lower_new) c.index-a-x.result (omega arith), read V.value c.args.b.now (l.x + c.args.places.lower_gone) c.index-b-x.result (omega arith))
-          (added-small sum enters leaves _ _ (c.requires.0.within.each l.x inside) (c.requires.1.each l.x inside) (c.requires.2.each l.x inside) g.met.S.Slope.room),
+          (added-small sum enters leaves _ _ _ (c.requires.0.within.each l.x inside) (c.requires.1.each l.x inside) (c.requires.2.each l.x inside) g.met.S.Slope.room_before),
       rw (read V.value c.args.c.now (l.x + c.args.places.upper_gone) c.index-c-x.result (omega arith)) (c.requires.4.each l.x inside),
       rw (read V.value c.args.b.now (l.x + c.args.places.upper_new) c.index-b-x-in-loop-x.result (omega arith)) (c.requires.3.each l.x inside),
     )

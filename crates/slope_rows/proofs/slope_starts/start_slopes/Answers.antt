@@ -9,12 +9,12 @@ use Rattle.slope_rows.proofs.slope_starts.start_slopes.Goals as goal
 pub gather-requires : goal.gather-requires
 gather-requires g c =
     let x = c.args.slanted.now in
-    (search rules, (search rules, rises-gather x _ c.requires.1.inside g.S.Value.PlaneValue.holds _ _ g.met.S.Value.PlaneValue.small c.requires.0 g.met.S.Slope.room c.loop-t-test.true c.loop-t.invariant.2 c.load.ensures.holds c.load-in-loop-t.ensures.holds _ c.rising_cells.ensures))
+    (search rules, (search rules, rises-gather x _ c.requires.1.inside g.S.Value.PlaneValue.holds _ _ g.met.S.Value.PlaneValue.small c.requires.0 g.met.S.Slope.room_moved c.loop-t-test.true c.loop-t.invariant.2 c.load.ensures.holds c.load-in-loop-t.ensures.holds _ c.rising_cells.ensures))
 
 pub gather-requires-in-loop-t : goal.gather-requires-in-loop-t
 gather-requires-in-loop-t g c =
     let x = c.args.slanted.now in
-    (search rules, (search rules, falls-gather x _ c.requires.1.inside g.S.Value.PlaneValue.holds _ _ g.met.S.Value.PlaneValue.small c.requires.0 g.met.S.Slope.room c.loop-t-test.true c.loop-t.invariant.2 c.load.ensures.holds c.load-in-loop-t.ensures.holds _ c.falling_cells.ensures))
+    (search rules, (search rules, falls-gather x _ c.requires.1.inside g.S.Value.PlaneValue.holds _ _ g.met.S.Value.PlaneValue.small c.requires.0 g.met.S.Slope.room_moved c.loop-t-test.true c.loop-t.invariant.2 c.load.ensures.holds c.load-in-loop-t.ensures.holds _ c.falling_cells.ensures))
 
 pub loop-t-preserved : goal.loop-t-preserved
 loop-t-preserved g c =

@@ -1,0 +1,10 @@
+-- `c_interface::steady::ls_steady` meets its contract. Assumes nothing.
+use borrow.Author.Rules.{rules}
+use Rattle.spec_picture.specs.Window.{window}
+use Rattle.spec_picture.specs.Picture.{shift}
+use Rattle.spec_c.specs.Frame.{frame_from}
+use Rattle.agreement.proofs.Statuses.{steady-status}
+use Rattle.c_interface.proofs.steady.ls_steady.Goals as goal
+
+pub returns-clause-number : goal.returns-clause-number
+returns-clause-number c = steady-status (frame_from c.args.rows c.args.columns c.args.columns_wrap) c.args.f.now c.args.g.now (window c.args.shape c.args.first c.args.second) (shift c.args.down c.args.right) _ (search rules)
