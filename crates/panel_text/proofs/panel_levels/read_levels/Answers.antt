@@ -17,13 +17,13 @@ returns-in_err-branch c = rw c.from_residual-in_err-branch.ensures (level-malfor
 pub returns-in_err-level : goal.returns-in_err-level
 returns-in_err-level c =
     let fits : FitsSigned w32 c.in_ok-branch.field-0 = search rules in
-    let beyond = beyond-16-bits _ c.try_from.result (simp (to_z-of_z, fits) at c.try_from.ensures) (sym c.in_err-level.was ∙ c.ok.ensures.value) in
+    let beyond = beyond-16-bits _ c.try_from.result (simp (to_z-of_z, fits) at c.try_from.ensures) (search rules) in
     rw c.from_residual-in_err-level.ensures (level-beyond _ _ _ _ _ c.loop-level.invariant c.loop-level-test.true _ _ (c.in_ok-next.ensures.steps ∙ ap (λ n. n ∷ c.next.new.self) c.in_ok-branch.was) beyond)
 
 pub loop-level-preserved : goal.loop-level-preserved
 loop-level-preserved c =
     let fits : FitsSigned w32 c.in_ok-branch.field-0 = search rules in
-    let within = within-16-bits _ c.try_from.result _ (simp (to_z-of_z, fits) at c.try_from.ensures) (sym c.in_ok-level.was ∙ c.ok.ensures.value) in
+    let within = within-16-bits _ c.try_from.result c.in_ok-level.field-0 (simp (to_z-of_z, fits) at c.try_from.ensures) (search rules) in
     simp (to_z-of_z, within.1.1)
     (rw within.1.0 (levels-more _ _ _ _ _ c.loop-level.invariant c.loop-level-test.true _ _ (c.in_ok-next.ensures.steps ∙ ap (λ n. n ∷ c.next.new.self) c.in_ok-branch.was) within.0))
 
