@@ -16,8 +16,8 @@ pub struct View<'a> {
     pub ghost counting: { Counting source.frame source.shift rows columns },
 }
 
-// The view of checked inputs. Inlined, as all that takes a view apart for a row is (`part`, `own_row`, `copied`): where a view lay in memory, a table of a picture of one column took up
-// to 1.9 times as long.
+// The view of checked inputs. Inlined, as all that takes a view apart for a row is (`part`, `own_row`, `copied`): with these as calls, tables of pictures of one
+// to 16 columns took 1.1 to 1.4 times as long.
 #[inline(always)]
 pub fn view_of<'a>(source: &CheckedSource<'a>) -> View<'a>
     ensures { result.source ≡ source.now }
