@@ -95,8 +95,8 @@ def items(text):
 
 @lru_cache(maxsize=None)
 def fields(text):
-    """The fields that others may name of the types that a file of code has."""
-    return set(re.findall(r"^\s+pub (?:ghost )?(\w+):", text, re.M))
+    """The fields that others may name of the types that a file of code has, and what its traits have for proofs alone."""
+    return set(re.findall(r"^\s+pub (?:ghost )?(\w+):", text, re.M)) | set(re.findall(r"^\s+ghost (\w+): .*;$", text, re.M))
 
 
 @lru_cache(maxsize=None)
@@ -283,6 +283,7 @@ DAMAGES = [
     ("a definition renamed", "crates/spec_picture/specs/Frame.antt", r"\bframe_legal :", "frame_allowed :"),
     ("a theorem renamed", "crates/spec_picture/proofs/Refusals.antt", r"\bdirect-order :", "direct-checks :"),
     ("a field renamed", "crates/agreement/specs/Agreement.antt", r"\bjoined_length :", "joined_size :"),
+    ("a law of a trait renamed", "crates/slope_loops/src/loops.rt", r"ghost added_moved:", "ghost moved_added:"),
     ("a function renamed", "crates/checks/src/legal_frames.rt", r"fn frame_legal\(", "fn frame_allowed("),
     ("a function in a comment alone", "crates/checks/src/legal_frames.rt", r"pub fn frame_legal\(", "// fn frame_legal\npub fn legal("),
     ("another field", TRACE, r"`joined_length`", "`joined-length`"),

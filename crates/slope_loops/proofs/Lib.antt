@@ -5,3 +5,4 @@ pub mod Moves
 pub mod Numbers
 pub mod Parts
 pub mod Rows
+pub mod Same

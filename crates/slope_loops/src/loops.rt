@@ -9,6 +9,9 @@ ghost use Rattle.numbers.specs.Grid.{tabulate};
 ghost use Rattle.slope_loops.specs.Loops.{AtMost, Replaced, gathered, slid, slopes_added, tips_added, GatherRequires, SlideRequires, FinishRequires, TipsRequires};
 ghost use Rattle.slope_loops.specs.declared.padding.TheConstants.{ROW_LENGTH};
 
+#[cfg(test)]
+mod tests; // loops/tests.rt: the loops at their limits
+
 use crate::padding::{MARGIN, PlaneValue, ROW_LENGTH};
 use arithmetic::wrapping;
 
@@ -61,6 +64,12 @@ pub trait Slope: Copy {
     // `slide` has a second cell enter and leave
     ghost room_before: { moved_max + 2 * Self.Value.value_max + 4 ≤ before_max };
 
+    // a sum that is small enough to be added may be moved on
+    ghost added_moved: { sum_max ≤ moved_max };
+
+    // and one of twice its size may have a cell enter and one leave
+    ghost twice_before: { 2 * sum_max ≤ before_max };
+
     // the slopes fit in memory
     ghost slopes_fit: { ROW_LENGTH * type_size Self.row < 2 ^ 63 };
 }
@@ -82,6 +91,10 @@ impl Slope for i32 {
     ghost room_moved = { omega arith };
 
     ghost room_before = { omega arith };
+
+    ghost added_moved = { omega arith };
+
+    ghost twice_before = { omega arith };
 
     ghost slopes_fit = { omega arith };
 
@@ -123,6 +136,10 @@ impl Slope for i64 {
     ghost room_moved = { omega arith };
 
     ghost room_before = { omega arith };
+
+    ghost added_moved = { omega arith };
+
+    ghost twice_before = { omega arith };
 
     ghost slopes_fit = { omega arith };
 
