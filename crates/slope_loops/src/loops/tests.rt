@@ -1,4 +1,4 @@
-// The loops at their limits: sums of any slope that are small enough to be added may be moved on, and the largest sums are moved on as any.
+// Sums that are small enough to be added may be moved on: the first three functions say so of every slope, and the test runs them with the largest of both widths.
 
 ghost use Rattle.std.specs.Prelude.{◌≡◌, ◌*◌, ◌≤◌, ◌+ℤ◌, ◌-ℤ◌, map};
 ghost use Rattle.std.specs.Int.Signed.{mag};
@@ -37,7 +37,7 @@ fn slide_added<S: Slope>(
 }
 
 // A cell enters a sum of twice the size that may be added, and one leaves it.
-fn enter_and_leave_twice<S: Slope>(sum: S, enters: S::Value, leaves: S::Value) -> S
+fn enter_and_leave_doubled<S: Slope>(sum: S, enters: S::Value, leaves: S::Value) -> S
     requires { (mag (S.sum sum) ≤ 2 * S.sum_max) × (mag (S.Value.value enters) ≤ S.Value.value_max) × (mag (S.Value.value leaves) ≤ S.Value.value_max) }
     ensures { S.sum result ≡ S.sum sum +ℤ (S.Value.value enters -ℤ S.Value.value leaves) }
 {
@@ -81,7 +81,7 @@ fn slid_of<S: Slope>(sum: S, enters: S::Value, leaves: S::Value) -> [S; ROW_LENG
     sums
 }
 
-// The largest sums that may be added, and the largest cells.
+// The largest sums that may be added, 2^29 and 2^60 in size, and for `enter_and_leave` twice as much; the largest cells, 2^15 and 2^30.
 #[test]
 fn moves_sums_that_may_be_added() -> Result<(), Fail> {
     let narrow = gathered_of(-536870912i32, -32768, 32767);
@@ -100,11 +100,11 @@ fn moves_sums_that_may_be_added() -> Result<(), Fail> {
     if wide[4..6] != [1152921504606846976, 1152921508901814272] {
         return Err(Fail::new(format_args!("slid {:?}", &wide[4..6])));
     }
-    let once = enter_and_leave_twice(1073741824i32, 32767, -32768);
+    let once = enter_and_leave_doubled(1073741824i32, 32767, -32768);
     if once != 1073807359 {
         return Err(Fail::new(format_args!("entered and left {once}")));
     }
-    let once = enter_and_leave_twice(-2305843009213693952i64, -1073741824, 1073741824);
+    let once = enter_and_leave_doubled(-2305843009213693952i64, -1073741824, 1073741824);
     if once != -2305843011361177600 {
         return Err(Fail::new(format_args!("entered and left {once}")));
     }

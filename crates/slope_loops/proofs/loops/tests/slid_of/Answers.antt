@@ -1,6 +1,7 @@
 -- `slope_loops::loops::tests::slid_of` meets its contract. Assumes nothing.
 use Rattle.std.proofs.Common.{rules}
 use native.Mathlib.Omega.{arith}
+use Rattle.slope_loops.specs.declared.padding.TheConstants.{ROW_LENGTH}
 use Rattle.slope_loops.proofs.Same.{same-length, same-at_most}
 use Rattle.slope_loops.proofs.loops.tests.slid_of.Goals as goal
 
@@ -13,21 +14,21 @@ slide_added-requires g c =
         search rules,
         (
           record {
-            length_a = same-length V.value 1536 c.args.enters;
-            length_b = same-length V.value 1536 c.args.leaves;
-            length_c = same-length V.value 1536 c.args.enters;
-            length_sums = same-length S.sum 1536 c.args.sum;
+            length_a = same-length V.value ROW_LENGTH c.args.enters;
+            length_b = same-length V.value ROW_LENGTH c.args.leaves;
+            length_c = same-length V.value ROW_LENGTH c.args.enters;
+            length_sums = same-length S.sum ROW_LENGTH c.args.sum;
             room = omega arith;
             room_lower_new = omega arith;
             room_lower_gone = omega arith;
             room_upper_new = omega arith;
             room_upper_gone = omega arith;
-            within = same-at_most S.sum 1536 c.args.sum _ _ _ c.requires.0;
+            within = same-at_most S.sum ROW_LENGTH c.args.sum _ _ _ c.requires.0;
           },
-          same-at_most V.value 1536 c.args.enters _ _ _ c.requires.1,
-          same-at_most V.value 1536 c.args.leaves _ _ _ c.requires.2,
-          same-at_most V.value 1536 c.args.leaves _ _ _ c.requires.2,
-          same-at_most V.value 1536 c.args.enters _ _ _ c.requires.1,
+          same-at_most V.value ROW_LENGTH c.args.enters _ _ _ c.requires.1,
+          same-at_most V.value ROW_LENGTH c.args.leaves _ _ _ c.requires.2,
+          same-at_most V.value ROW_LENGTH c.args.leaves _ _ _ c.requires.2,
+          same-at_most V.value ROW_LENGTH c.args.enters _ _ _ c.requires.1,
         ),
       ),
     )
